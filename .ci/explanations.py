@@ -1,5 +1,8 @@
-"""Tries ./explain, for .ci/tools: on the texts of examples/mistakes and of tests/forms.txt, guilty.txt and cures.txt, on files of all
-kinds, on notes and numbers, and on streams that are closed. Each call asks the program that is tried."""
+"""Tries ./explain, for .ci/tools.
+
+It is called on the texts of examples/mistakes, tests/forms.txt, guilty.txt and cures.txt, on files of all kinds, on notes and
+numbers, and with closed streams. Each call asks the program that is tried.
+"""
 import glob
 import os
 import re
@@ -16,28 +19,34 @@ MODEL = b"cosim 1\nunit A\n  state n : Int64 = 0\n  output y : Int64 = n\nend\ni
 NESTED = b"group G\n  instance a : A\n  end\n  out y = a.y\nmain\n" + MODEL.replace(b"instance a : A", b"instance g : G")
 SAVED = b"saved 1\nrow 0\nat 0 0\nstate a 0\n" + MODEL
 
-NO_TRACE = b"no model: put it behind a model and a line `trace`, and ask ./cosim verify\n"
+NO_TRACE = b"no model: append it to a model and a line `trace`, and ask ./cosim verify\n"
 
-# Files, with the status, what is noted, and how the output begins; `{}` is the name.
-FILES = {
+# Files that are accepted, or that no command judges: with the status, what is noted, and what is printed; `{}` is the name.
+ACCEPTED = {
     "model": (MODEL, 0, b"", b"{}: accepted\n"),
     "parted": (MODEL + b"trace\ntime,index\n", 0, b"", b"{}: accepted, up to the line 'trace'\n"),
-    "front": (b"cosim 1\nunit\n trace # of\n", 3, b"", b"{}:2: rule 4: a line has no form\n     2 | unit\n"),
     "nested": (NESTED, 0, b"", b"{}: accepted by flatten; run it by ./cosim flatten < {} | ./cosim run\n"),
     "saved": (SAVED, 0, b"", b"{}: accepted by resume; run it by ./cosim resume < {}\n"),
     "saved by DOS": (SAVED.replace(b"\n", b"\r\n"), 0, b"", b"{}: accepted by resume; run it by ./cosim resume < '{}'\n"),
-    "saved behind": (SAVED.replace(b"= n", b"= m"), 3, b"", b"{}:8: rule 9: a name isn't there, or may not be used\n     8 |   output y : Int64 = m\n"),
-    "saved before": (SAVED.replace(b"at 0 0", b"at 0"), 3, b"", b"{}:3: rule 32: a position isn't told, of `resume` alone\n     3 | at 0\n"),
     "table": (b"time,v\n0,5\n2,-1\n", 0, b"", b"{}: accepted by stimulus; make a model of it by ./cosim stimulus < {}\n"),
-    "lines of a table": (b"\ntime,v\n", 3, b"", b"{}:2: rule 4: a line has no form\n"),
-    "records": (b'time,v\n\n0,"5"\n\n0,6\n', 3, b"", b"{}:5: rule 36: no table of stimulus, of `stimulus` alone\n     5 | 0,6\nhere: "),
     "trace": (b"time,index,a.y\n0,0,0\n", 2, b"{}: the table of a trace, which is " + NO_TRACE, b""),
-    "empty": (b"", 3, b"", b"{}:1: rule 7: there is no header\n     1 |\n"),
-    "long": (b"#" * (1 << 20), 3, b"", b"{}:1: rule 2: the text is too long\n     1 | " + b"#" * 200 + b" ..\n"),
-    "signs": (b"cosim 1\nunit \x1b\xc2\xa0\xff\r\n", 3, b"", b"{}:2: rule 1: a byte that isn't allowed\n     2 | unit \\x1b\\xa0\\xff\n"),
-    "sum": (MODEL.replace(b"= n", b"= n" + b"+n" * 450 + b"+1.0"), 3, b"", b"{}:4: rule 10: a kind is wrong\n     4 |   output y : Int64 = n+n"),
-    "names": (MODEL.replace(b"= n", b"= n" + b"+n" * 450 + b"+m"), 3, b"", b"{}:4: rule 9: a name isn't there, or may not be used\n     4 |   output y : "),
-    "returns": (b"cosim 1\r\nunit A\r\r\n", 3, b"", b"{}:2: rule 1: a byte that isn't allowed\n     2 | unit A\\r\n"),
+}
+
+SUM = b"= n" + b"+n" * 450
+
+# Files that are refused, with the line, the rule, and how the line is shown.
+REFUSED = {
+    "front": (b"cosim 1\nunit\n trace # of\n", 2, 4, b"unit\n"),
+    "saved behind": (SAVED.replace(b"= n", b"= m"), 8, 9, b"  output y : Int64 = m\n"),
+    "saved before": (SAVED.replace(b"at 0 0", b"at 0"), 3, 32, b"at 0\n"),
+    "lines of a table": (b"\ntime,v\n", 2, 4, b"time,v\n"),
+    "records": (b'time,v\n\n0,"5"\n\n0,6\n', 5, 36, b"0,6\n"),
+    "empty": (b"", 1, 7, b""),
+    "long": (b"#" * (1 << 20), 1, 2, b"#" * 200 + b" ..\n"),
+    "signs": (b"cosim 1\nunit \x1b\xc2\xa0\xff\r\n", 2, 1, b"unit \\x1b\\xa0\\xff\n"),
+    "returns": (b"cosim 1\r\nunit A\r\r\n", 2, 1, b"unit A\\r\n"),
+    "kinds of a sum": (MODEL.replace(b"= n", SUM + b"+1.0"), 4, 10, b"  output y : Int64 = n+n"),
+    "names of a sum": (MODEL.replace(b"= n", SUM + b"+m"), 4, 9, b"  output y : Int64 = n+n"),
 }
 
 # Notes, with the kind and the number of the page that is printed.
@@ -161,18 +170,22 @@ def cures_of_cases(trial):
 
 def files(trial):
     """Files of all kinds, and names that could forge a line or do something to a terminal."""
-    for name, (text, status, notes, output) in FILES.items():
-        got = explain(trial, text, name)
-        trial.tally.compare(f"explain, {name}", got[:2], (status, notes.replace(b"{}", name.encode())))
-        begin = output.replace(b"{}", name.encode())
-        trial.try_that(f"explain, {name}: {got[2][:200]}", got[2].startswith(begin) and bool(got[2]) == bool(begin))
+    for name, (text, *wanted) in ACCEPTED.items():
+        status, *written = (part if isinstance(part, int) else part.replace(b"{}", name.encode()) for part in wanted)
+        trial.tally.compare(f"explain, {name}", explain(trial, text, name), (status, *written))
+    for name, (text, line, rule, shown) in REFUSED.items():
+        status, notes, output = explain(trial, text, name)
+        trial.tally.compare(f"explain, {name}", (status, notes), (3, b""))
+        begin = rf"{name}:{line}: rule {rule}: [^\n]*\n{line:6} \|".encode() + re.escape(b" " + shown if shown else b"\n")
+        trial.try_that(f"explain, {name}: {output[:200]}", re.match(begin, output))
     for name, shown in (("a\nb:3: rule 4: ", "a\\nb:3: rule 4: "), ("\x1b[2J", "\\x1b[2J"), ("\udcff", "\\udcff"), ("é", "é")):
         wanted = f"{shown}:1: rule 7: there is no header\n".encode()
         got = explain(trial, b"stop 3\n", name)
         trial.try_that(f"explain, a file named {name!r}: {got}", got[:2] == (3, b"") and got[2].startswith(wanted))
     for path, rule in (("/dev/null", 7), ("/dev/zero", 2)):
         got = trial.ask(["./explain", path])
-        trial.try_that(f"explain {path}: {got[2][:99]}", got[:2] == (3, b"") and got[2].startswith(f"{path}:1: rule {rule}: ".encode()))
+        begin = f"{path}:1: rule {rule}: ".encode()
+        trial.try_that(f"explain {path}: {got[2][:99]}", got[:2] == (3, b"") and got[2].startswith(begin))
 
 
 def pages(trial):
@@ -181,7 +194,8 @@ def pages(trial):
         trial.tally.compare(f"explain rule {number}", trial.ask(["./explain", "rule", str(number)]), (0, b"", output))
         whole = re.match(rf"#+ Rule {number}: .*\n\*\*Cure\.\*\* ", output.decode(), re.S)
         trial.try_that(f"explain {number}", (status, notes) == (0, b"") and whole)
-    trial.try_that("explain 4 has the table of forms", b"\n| in an instance | `p = L`, `end` |\n" in trial.ask(["./explain", "4"])[2])
+    output = trial.ask(["./explain", "4"])[2]
+    trial.try_that("explain 4 has the table of forms", b"\n| in an instance | `p = L`, `end` |\n" in output)
     told = {
         "status": {0: "stop", 1: "no memory", 2: "usage", 3: "line L: rule R", 4: "read fault", 5: "write fault"}
         | {6: "zero budget", 7: "row budget", 8: "fault F of A", 9: "A refused D", 69: "script"}
@@ -214,7 +228,8 @@ def words_without_form(trial):
     form = trial.ask(["./explain", "--help"])[2]
     for words in ([], ["rule"], ["rule", "x"], ["law", "3"], ["--rule"], ["a", "b", "c"]):
         trial.tally.compare(f"explain {words}", trial.ask(["./explain", *words]), (2, form, b""))
-    for path, why in (("nowhere.cosim", "No such file or directory"), ("docs", "Is a directory"), ("", "No such file or directory")):
+    missing = "No such file or directory"
+    for path, why in (("nowhere.cosim", missing), ("docs", "Is a directory"), ("", missing)):
         trial.tally.compare(f"explain {path!r}", trial.ask(["./explain", path]), (1, f"{path}: {why}\n".encode(), b""))
     got = trial.call(["./explain", "examples/heater.cosim"], COSIM="/nowhere")
     trial.tally.compare("explain, no program", got, (69, b"/nowhere: No such file or directory\n", b""))
@@ -242,4 +257,5 @@ def environments(trial):
     trial.try_that(f"calls leave {left}", not [path for path in left if os.sep + ".ci" not in path])
 
 
-CHECKS = (mistakes, lines_without_form, guilty_lines, cures_of_cases, files, pages, notes_of_program, words_without_form, environments)
+CHECKS = (mistakes, lines_without_form, guilty_lines, cures_of_cases, files, pages, notes_of_program)
+CHECKS += (words_without_form, environments)

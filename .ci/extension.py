@@ -1,5 +1,7 @@
-"""Tries editors/vscode, for .ci/tools: that its files are what Visual Studio Code requires, that what they refer to is there, and that
-its patterns and snippets do what they are for."""
+"""Tries editors/vscode, for .ci/tools.
+
+Its files are what Visual Studio Code requires, what they refer to is there, and its patterns and snippets do what they are for.
+"""
 import glob
 import json
 import os
@@ -109,7 +111,8 @@ def tasks(trial):
 def indentation(trial):
     """The rules of indentation indent the code of each formatted example as it is."""
     configuration = load("language-configuration.json")
-    trial.try_that("language-configuration.json", set(configuration) == CONFIGURATION and configuration["comments"] == {"lineComment": "#"})
+    trial.try_that("language-configuration.json, keys", set(configuration) == CONFIGURATION)
+    trial.try_that("language-configuration.json, comments", configuration["comments"] == {"lineComment": "#"})
     more, less = (re.compile(configuration["indentationRules"][key]) for key in ("increaseIndentPattern", "decreaseIndentPattern"))
     for path in sorted(glob.glob("examples/*.cosim")) + ["examples/groups/bus.cosim"]:
         depth, wrong = 0, []
@@ -141,7 +144,8 @@ def snippets(trial):
     step = unit.replace("  step\n", "  step\n" + text["If"] + text["Repeat"])
     connected = unit.replace("power : Int64", "power : Bool").replace("then watts else 0", "then on else false")
     connected = re.sub(" needs on = .*", " = true", connected)
-    event = unit.replace("input on : Bool = false", "input charge : Int64 = 0").replace("needs on", "needs charge").replace("if on", "if charge > 0")
+    event = unit.replace("input on : Bool = false", "input charge : Int64 = 0")
+    event = event.replace("needs on", "needs charge").replace("if on", "if charge > 0")
     models = {
         "Model": ("check", text["Model"]),
         "Unit, Instance": ("check", HEAD + unit + instance + TAIL),

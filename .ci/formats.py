@@ -1,4 +1,5 @@
-"""Tries tools/format, for .ci/tools: on worked texts, on the examples, on random texts, and on files and streams of all kinds."""
+"""Tries tools/format, for .ci/tools: on worked texts, on the examples, on random texts, and on files and streams of all
+kinds."""
 import glob
 import importlib.machinery
 import importlib.util
@@ -9,7 +10,8 @@ import sys
 
 from common import ROOT, read
 
-# The texts of examples that aren't formatted: of mistakes, a part of a text, what `flatten` writes, and what is joined of other files.
+# The texts of examples that aren't formatted: of mistakes, a part of a text, what `flatten` writes, and what is joined of
+# other files.
 OTHERS = ("examples/mistakes/", "examples/orbit/", "examples/groups/bus.flat.cosim")
 
 # How many random texts are tried, by which seed.
@@ -53,7 +55,8 @@ def worked(trial):
         trial.tally.compare(f"formatted, {name}", (0, b"", format_text(text.encode())), (0, b"", wanted))
         trial.tally.compare(f"formatted twice, {name}", (0, b"", format_text(wanted)), (0, b"", wanted))
         by_dos = wanted.replace(b"\n", b"\r\n")
-        trial.tally.compare(f"formatted, {name}, by DOS", (0, b"", format_text(text.encode().replace(b"\n", b"\r\n"))), (0, b"", by_dos))
+        got = format_text(text.encode().replace(b"\n", b"\r\n"))
+        trial.tally.compare(f"formatted, {name}, by DOS", (0, b"", got), (0, b"", by_dos))
 
 
 def examples(trial):
@@ -63,7 +66,8 @@ def examples(trial):
 
 
 def random_texts(trial):
-    """Random texts, which may be refused: each keeps its canonical text, its comments and its blank lines, and is formatted once."""
+    """Random texts, which may be refused: each keeps its canonical text, its comments and its blank lines, and is formatted
+    once."""
     format_text, lines = load_formatting()
     texts = load_fuzz().Texts(trial.program, random.Random(SEED))
     makers, accepted = (texts.noise, texts.changed, texts.made, texts.generated), 0
@@ -93,7 +97,8 @@ def files(trial):
     trial.tally.compare("format, a stream", trial.ask(["tools/format"], PLAIN), (0, b"", FORMATTED))
     trial.tally.compare("format --check, a stream", trial.ask(["tools/format", "--check"], PLAIN), (1, b"", b""))
     trial.tally.compare("format --check, formatted", trial.ask(["tools/format", "--check"], FORMATTED), (0, b"", b""))
-    trial.tally.compare("format, nowhere", trial.ask(["tools/format", "nowhere"]), (4, b"nowhere: No such file or directory\n", b""))
+    wanted = (4, b"nowhere: No such file or directory\n", b"")
+    trial.tally.compare("format, nowhere", trial.ask(["tools/format", "nowhere"]), wanted)
     path = os.path.join(trial.clone, "format.cosim")
     link = os.path.join(trial.clone, "link.cosim")
     os.symlink("format.cosim", link)
@@ -112,7 +117,8 @@ def files(trial):
     ]
     for name, text, told in refusals:
         write(path, text, 0o600)
-        trial.tally.compare(f"format, {name}", trial.ask(["tools/format", "format.cosim"]), (3, b"format.cosim: " + told + b"\n", b""))
+        wanted = (3, b"format.cosim: " + told + b"\n", b"")
+        trial.tally.compare(f"format, {name}", trial.ask(["tools/format", "format.cosim"]), wanted)
         trial.try_that(f"format, {name}, changes nothing", read(path) == text)
     left = glob.glob(os.path.join(trial.clone, ".format-*"))
     trial.try_that(f"format leaves {left}", not left)

@@ -4,7 +4,7 @@ from typing import Callable, Dict, Iterable, List, NamedTuple, Optional, Sequenc
 
 from .program import ACCEPTED, ask
 from .repository import LONGEST_TEXT
-from .streams import note, put, read_input
+from .streams import note, read_input, write_output
 
 LINE_OF_PORT = re.compile(r"(event )?(input|output) (\w+):([^= ]+(?: \d)?)(?: needs [^=]*)?(?:=(.*))?")
 LINE_OF_STATE = re.compile(r"state (\w+):([^=]+)=(.*)")
@@ -28,8 +28,11 @@ class Port(NamedTuple):
 
 
 class Model(NamedTuple):
-    """The units by instance; all ports; output and input of each connection; the outputs that are sampled; the types of the states by
-    unit; the resolutions by unit; and the numbers of the text by their words."""
+    """What a canonical text has.
+
+    These are the units by instance, all ports, output and input of each connection, the outputs that are sampled, the types
+    of the states by unit, the resolutions by unit, and the numbers of the text by their words.
+    """
 
     units: Dict[str, str]
     ports: List[Port]
@@ -72,11 +75,12 @@ def read_model(canonical: bytes) -> Model:
     return model
 
 
-def run(document: Optional[str], words: Sequence[str], tell: Callable[[Model], Iterable[str]]) -> int:
-    """A tool without words: reads a model from standard input, and writes the lines that `tell` gives for it. Returns the status."""
+def run(document: Optional[str], words: Sequence[str], lines_of: Callable[[Model], Iterable[str]]) -> int:
+    """A tool without words: reads a model from standard input, and writes the lines that `lines_of` gives for it. Returns the
+    status."""
     usage = (document or "").strip()
     if list(words) in (["--help"], ["-h"], ["help"]):
-        put(usage)
+        write_output(usage)
         return ACCEPTED
     if words:
         note(usage)
@@ -85,5 +89,5 @@ def run(document: Optional[str], words: Sequence[str], tell: Callable[[Model], I
     if answer.line is not None:
         note(f"cosim: line {answer.line}: rule {answer.rule}")
     if answer.status == ACCEPTED:
-        put("\n".join(tell(read_model(answer.output))))
+        write_output("\n".join(lines_of(read_model(answer.output))))
     return answer.status

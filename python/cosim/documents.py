@@ -61,16 +61,16 @@ def rows(text: str, first: str) -> Iterator[Row]:
 
 
 def rows_of(text: str, first: str, number: int) -> List[Row]:
-    """Of these rows those of a number, be it told alone or as one of so many and more."""
-    told = ((row, re.match(r"\[?(\d+)( and more)?", row[first])) for row in rows(text, first))
-    return [row for row, found in told if found and (int(found[1]) == number or (found[2] and int(found[1]) < number))]
+    """Of these rows those of a number, be it alone or one of so many and more."""
+    numbered = ((row, re.match(r"\[?(\d+)( and more)?", row[first])) for row in rows(text, first))
+    return [row for row, found in numbered if found and (int(found[1]) == number or (found[2] and int(found[1]) < number))]
 
 
 @functools.lru_cache(maxsize=None)
 def read_titles() -> Dict[int, Row]:
     """The table of all rules, each with what is wrong and its cure."""
-    told = ((row, re.match(r"\[(\d+)\]", row["rule"])) for row in rows(read_document(RULES), "rule"))
-    return {int(found[1]): row for row, found in told if found}
+    numbered = ((row, re.match(r"\[(\d+)\]", row["rule"])) for row in rows(read_document(RULES), "rule"))
+    return {int(found[1]): row for row, found in numbered if found}
 
 
 def mentions(text: str, kind: str, number: int) -> Iterator[str]:

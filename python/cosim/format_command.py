@@ -7,7 +7,7 @@ from .explain.inputs import has_groups
 from .formatting import format_text
 from .program import ACCEPTED, REFUSED, ask
 from .repository import LONGEST_TEXT
-from .streams import READ_FAULT, WRITE_FAULT, clean_name, note, put, read_at_most, read_input
+from .streams import READ_FAULT, WRITE_FAULT, clean_name, note, read_at_most, read_input, write_output
 
 # The statuses where a file would be changed, and where words have no form.
 WOULD_CHANGE = 1
@@ -50,12 +50,12 @@ def format_input(is_check: bool) -> int:
         return formatted.status
     if is_check:
         return WOULD_CHANGE if formatted.text != text else ACCEPTED
-    put(formatted.text)
+    write_output(formatted.text)
     return ACCEPTED
 
 
 def format_file(path: str, is_check: bool) -> int:
-    """Formats a file in place, or tells that it would be changed."""
+    """Formats a file in place, or reports that it would be changed."""
     name = clean_name(path)
     try:
         with open(path, "rb") as file:
@@ -70,7 +70,7 @@ def format_file(path: str, is_check: bool) -> int:
     if formatted.text == text:
         return ACCEPTED
     if is_check:
-        put(f"{name}: would be formatted")
+        write_output(f"{name}: would be formatted")
         return WOULD_CHANGE
     return replace(path, formatted.text)
 
@@ -96,7 +96,7 @@ def replace(path: str, text: bytes) -> int:
 
 def main(document: str, words: Sequence[str]) -> int:
     if list(words) in (["help"], ["--help"], ["-h"]):
-        put(document.strip())
+        write_output(document.strip())
         return ACCEPTED
     is_check = CHECK in words
     paths: List[str] = list(words)

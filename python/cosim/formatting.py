@@ -7,10 +7,10 @@ from .repository import words_by_group
 
 INDENTATION = "  "
 
-# What stands at least between a line and its comment.
+# The least space between the code of a line and its comment.
 BEFORE_COMMENT = "  "
 
-# The signs of a model that no space stands before, and that none stands behind.
+# The signs of a model without a space before them, and those without a space after them.
 JOINED_TO_LEFT = (")", ",", ".")
 JOINED_TO_RIGHT = ("(", ".")
 
@@ -20,7 +20,7 @@ def calls() -> Sequence[str]:
 
 
 def ends_operand(token: str) -> bool:
-    """Whether a minus behind a token has a left side."""
+    """Whether a minus after a token has a left side."""
     if token == ")" or NUMBER.fullmatch(token):
         return True
     groups = words_by_group()
@@ -29,7 +29,7 @@ def ends_operand(token: str) -> bool:
 
 
 def is_apart(line: Sequence[str], place: int) -> bool:
-    """Whether a space stands between a token of a line and the one before it."""
+    """Whether there is a space between a token of a line and the one before it."""
     before, token = line[place - 1], line[place]
     if token in JOINED_TO_LEFT or before in JOINED_TO_RIGHT:
         return False
@@ -45,7 +45,7 @@ def space(line: Sequence[str]) -> str:
 
 
 def depth_of(placed: Placed) -> int:
-    """In how many blocks a line stands; that which it ends or divides isn't counted."""
+    """The number of blocks around a line, without the one that it ends or divides."""
     if is_part(placed.tokens) and not placed.blocks:
         return 0
     divides = bool(placed.tokens) and placed.tokens[0] in ("end", "else") and bool(placed.blocks)
@@ -53,7 +53,7 @@ def depth_of(placed: Placed) -> int:
 
 
 def depths_of(placed: Sequence[Placed]) -> Iterator[int]:
-    """The depth of each line. What stands before a line that begins a group belongs to it."""
+    """The depth of each line. Comments before a line that begins a group belong to that line."""
     depths: List[int] = []
     begins_part = False
     for line in reversed(placed):
@@ -64,7 +64,8 @@ def depths_of(placed: Sequence[Placed]) -> Iterator[int]:
 
 
 def widths_of(lines: Sequence[Tuple[str, bytes]]) -> Iterator[int]:
-    """How wide each line is made before its comment: the comments of lines between two lines without code stand in one column."""
+    """The width of each line before its comment: lines without code divide the text, and between two of them comments have one
+    column."""
     for has_code, paragraph in itertools.groupby(lines, lambda line: bool(line[0])):
         members = list(paragraph)
         width = max((len(code) for code, comment in members if comment), default=0)

@@ -1,7 +1,7 @@
 """The forms of lines: read from the table of docs/RULES.md, and where a line leaves them.
 
-A line is read from the left, with one token looked at, so that the place where it leaves a form is the first token that can't come
-there. Of several forms the one that goes furthest counts.
+A line is read from the left, one token after the other, so it leaves a form at the first token that can't come there. Of several
+forms the one that it leaves last counts.
 """
 import functools
 import re
@@ -240,7 +240,8 @@ def read_expression(reader: Reader) -> None:
 
 
 NEEDS = "u, v"
-PARTS: Dict[str, Callable[[Reader], None]] = {"T": Reader.type, "L": Reader.literal, "S": Reader.number, "e": read_expression, NEEDS: Reader.names}
+PARTS: Dict[str, Callable[[Reader], None]] = {"T": Reader.type, "L": Reader.literal, "S": Reader.number}
+PARTS.update({"e": read_expression, NEEDS: Reader.names})
 
 
 def form_of(text: str) -> Form:

@@ -48,7 +48,7 @@ def split_lines(text: bytes) -> List[bytes]:
 
 
 def split_comment(line: bytes) -> Tuple[bytes, bytes]:
-    """What stands before the comment of a line, and the comment, which is empty where there is none."""
+    """The code of a line, which is before its comment, and the comment, which may be empty."""
     found = COMMENT.match(line)
     assert found
     return line[: found.end()], line[found.end() :]
@@ -65,7 +65,7 @@ def texts_of(line: bytes) -> List[str]:
 
 
 def is_part(tokens: List[str]) -> bool:
-    """Whether a line begins a group, or the text behind the groups."""
+    """Whether a line begins a group, or the text after the groups."""
     return tokens == ["main"] or (len(tokens) == 2 and tokens[0] == "group" and bool(WORD.fullmatch(tokens[1])))
 
 
@@ -85,16 +85,17 @@ class Placed(NamedTuple):
 
 
 def placed_lines(text: bytes) -> Iterator[Placed]:
-    """The lines of a text, with groups or without. Behind a line that breaks a rule the blocks may be others than were meant."""
+    """The lines of a text, with groups or without. Behind a line that breaks a rule the blocks may be others than were
+    meant."""
     blocks: List[str] = []
     lines = [texts_of(line) for line in split_lines(text)]
-    in_group = behind_main = False
+    in_group = after_main = False
     has_parts = any(is_part(tokens) for tokens in lines)
     for number, tokens in enumerate(lines, 1):
         first = tokens[0] if tokens else ""
-        if has_parts and not behind_main and is_part(tokens):
-            behind_main = first == "main"
-            in_group, blocks = not behind_main, []
+        if has_parts and not after_main and is_part(tokens):
+            after_main = first == "main"
+            in_group, blocks = not after_main, []
             yield Placed(number, tokens, (), in_group)
             continue
         closing = first == "end" and bool(blocks)
@@ -106,7 +107,8 @@ def placed_lines(text: bytes) -> Iterator[Placed]:
 
 
 def opens(first: str, blocks: List[str]) -> bool:
-    """Whether a line that begins with such a word opens a block where it stands: in a step alone `if` and `repeat` do."""
+    """Whether a line that begins with such a word opens a block inside of these blocks: `if` and `repeat` do in a step
+    alone."""
     in_step = bool(blocks) and blocks[-1] in ("step", "if", "repeat")
     if first in ("if", "repeat"):
         return in_step

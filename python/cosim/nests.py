@@ -1,4 +1,5 @@
-"""Reads a text whose lines have forms, with groups or without, and says of which of its lines each line of the flat text comes."""
+"""Reads a text whose lines have forms, with groups or without, and says of which of its lines each line of the flat text
+comes."""
 from typing import Dict, Iterator, List, NamedTuple, Optional, Set, Tuple
 
 from .lines import LONGEST_NAME, Placed, is_part, placed_lines
@@ -9,7 +10,7 @@ MOST_CONNECTIONS = 2_048
 # How many ports are looked at until a text is given up, whose groups lead to the same ports by too many ways.
 MOST_STEPS = 1_000_000
 
-# The lines of a unit, and the lines of `main` behind its connections, in canonical order by their first words.
+# The lines of a unit, and the lines of `main` after its connections, in canonical order by their first words.
 ORDER_IN_UNIT = ("resolution", "param", "state", "local", "input", "event input", "output", "event output", "max", "step")
 ORDER_OF_NUMBERS = ("stop", "longest", "zero", "rows")
 
@@ -66,7 +67,7 @@ class Link(NamedTuple):
 
 
 class Part(NamedTuple):
-    """A group, or `main`, whose name is empty: its line, and what stands in it."""
+    """A group, or `main`, whose name is empty: its line, and its instances, links and connections."""
 
     name: str
     line: int
@@ -82,7 +83,8 @@ class Part(NamedTuple):
 
 
 class Nest(NamedTuple):
-    """A text: its groups, `main` with its units and samples, and the lines of its header and its numbers by their first words."""
+    """A text: its groups, `main` with its units and samples, and the lines of its header and its numbers by their first
+    words."""
 
     groups: List[Part]
     main: Part
@@ -102,7 +104,8 @@ class Nest(NamedTuple):
 
 
 class Origin(NamedTuple):
-    """Of which line a line of the flat text comes, by way of which others, and what the flat line says where that is another."""
+    """Of which line a line of the flat text comes, by way of which others, and what the flat line says where that is
+    another."""
 
     line: int
     ways: Ways = ()
@@ -123,26 +126,27 @@ class TooManyWays(Exception):
 
 
 def read_nest(text: bytes) -> Nest:
-    """The nest of a text that keeps rules 1 and 3 to 7, and of one with groups also rule 26. Of other texts it has what has a form."""
+    """The nest of a text that keeps rules 1 and 3 to 7, and of one with groups also rule 26. Of other texts it has what has a
+    form."""
     placed_all = list(placed_lines(text))
     nest = Nest([], empty_part("", 1), [], [], {}, {}, {})
     part = nest.main
     units: List[List[Placed]] = []
     has_parts = any(is_part(placed.tokens) for placed in placed_all)
-    behind_main = not has_parts
+    after_main = not has_parts
     for placed in placed_all:
         first = placed.tokens[0] if placed.tokens else ""
-        if not behind_main and is_part(placed.tokens):
-            behind_main = first == "main"
-            part = empty_part("" if behind_main else placed.tokens[-1], placed.number)
-            if behind_main:
+        if not after_main and is_part(placed.tokens):
+            after_main = first == "main"
+            part = empty_part("" if after_main else placed.tokens[-1], placed.number)
+            if after_main:
                 nest = nest._replace(main=part)
             else:
                 nest.groups.append(part)
                 nest.group_names.setdefault(part.name, part)
-        elif "unit" in placed.blocks or first == "unit":
-            if not placed.blocks:
-                units.append([])
+        elif first == "unit" and not placed.blocks:
+            units.append([placed])
+        elif "unit" in placed.blocks:
             units[-1].append(placed)
         elif first:
             read_line(nest, part, placed)
@@ -211,16 +215,34 @@ def declare(declared: Dict[str, Declared], sort: str, placed: Placed) -> None:
     declared.setdefault(name, Declared(sort, name, type_name, placed.number, tuple(placed.tokens)))
 
 
+def links_by_port(links: List[Link], is_out: bool) -> Dict[str, List[Link]]:
+    """The `in` lines of a group, or its `out` lines, by the group's port, and of those that lead to one inner port the first."""
+    by_port: Dict[str, Dict[End, Link]] = {}
+    for link in links:
+        outer_end, inner_end = (link.end, link.start) if is_out else (link.start, link.end)
+        by_port.setdefault(outer_end[1], {}).setdefault(inner_end, link)
+    return {port: list(by_end.values()) for port, by_end in by_port.items()}
+
+
 class Flat:
-    """The flat system of a nest: its instances, its connections and its samples, with their origins."""
+    """The flat system of a nest: its instances, its connections and its samples, with their origins.
+
+    Where the groups lead to connections by too many ways it has the first connections alone.
+    """
 
     def __init__(self, nest: Nest) -> None:
         self.nest = nest
         self.steps = 0
+        self.ins = {group.name: links_by_port(group.ins, False) for group in nest.group_names.values()}
+        self.outs = {group.name: links_by_port(group.outs, True) for group in nest.group_names.values()}
         self.instances: List[Tuple[str, Instance, Origin]] = []
         self.connections: List[Tuple[End, End, Origin]] = []
         self.add_instances(nest.main, (), ())
-        self.add_connections(nest.main, (), ())
+        try:
+            self.add_connections(nest.main, (), ())
+            self.is_whole = True
+        except TooManyWays:
+            self.is_whole = False
         self.samples = [(self.source(nest.main, (), link.start, ()), link.line) for link in nest.samples]
 
     def step(self) -> None:
@@ -262,10 +284,10 @@ class Flat:
         while True:
             instance = part.instance(end[0])
             group = self.nest.group(instance.unit) if instance else None
-            link = next((link for link in group.outs if link.end[1] == end[1]), None) if group else None
-            if group is None or link is None:
+            links = self.outs[group.name].get(end[1]) if group else None
+            if group is None or not links:
                 return ("_".join((*path, end[0])), end[1]), ways
-            part, path, end, ways = group, (*path, end[0]), link.start, (*ways, link.line)
+            part, path, end, ways = group, (*path, end[0]), links[0].start, (*ways, links[0].line)
 
     def targets(self, part: Part, path: Path, end: End, ways: Ways, seen: Set[End]) -> Iterator[Reached]:
         """The inputs of components that an input leads to, each once, and the `in` lines on the way."""
@@ -279,10 +301,8 @@ class Flat:
         if group is None:
             yield (name, end[1]), ways
             return
-        for link in group.ins:
-            self.step()
-            if link.start[1] == end[1]:
-                yield from self.targets(group, (*path, end[0]), link.end, (*ways, link.line), seen)
+        for link in self.ins[group.name].get(end[1], ()):
+            yield from self.targets(group, (*path, end[0]), link.end, (*ways, link.line), seen)
 
     def origins(self) -> List[Origin]:
         """The origin of each line of the flat text, in its order."""
@@ -293,6 +313,8 @@ class Flat:
             origins += [Origin(line, origin.ways) for _, line in instance.settings]
             origins += [Origin(line, origin.ways) for line in instance.last]
         origins += [origin for _, _, origin in self.connections]
+        if not self.is_whole:
+            return origins
         origins += [Origin(placed.number) for word in ORDER_OF_NUMBERS for placed in nest.numbers.get(word, [])]
         origins += [Origin(line, ways, f"sample {end[0]}.{end[1]}") for (end, ways), line in self.samples]
         return origins

@@ -29,7 +29,8 @@ class Answer(NamedTuple):
 
 
 def ask(command: str, text: bytes) -> Answer:
-    """Calls the program with a text as its input. Its notes go to standard error, but for a refusal's, which is part of the answer."""
+    """Calls the program with a text as its input. Its notes go to standard error, but for a refusal's, which is part of the
+    answer."""
     try:
         with tempfile.TemporaryFile() as given, tempfile.TemporaryFile() as output:
             given.write(text)
@@ -44,8 +45,10 @@ def ask(command: str, text: bytes) -> Answer:
 
 
 def ask_first_byte(command: str, text: bytes) -> Answer:
-    """As `ask`, with the first byte of the output alone: the program ends by a write fault where there is more. That is no fault of
-    the text, so the status is then that of an accepted one."""
+    """As `ask`, with the first byte of the output alone.
+
+    The program ends by a write fault where there is more. That is no fault of the text, so the status is that of an accepted one.
+    """
     try:
         with tempfile.TemporaryFile() as given, tempfile.TemporaryFile() as notes:
             given.write(text)

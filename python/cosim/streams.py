@@ -1,6 +1,6 @@
 """The standard streams of a tool, files that it reads, and names as they can be shown.
 
-No tool writes by Python's own streams: a stream may be closed, and what can't be written is then told by the status alone.
+No tool writes by Python's own streams: a stream may be closed, and then the status alone reports what can't be written.
 """
 import os
 import signal
@@ -18,7 +18,7 @@ CLOSED: Set[int] = set()
 
 
 def occupy_closed_streams() -> None:
-    """Opens the null device in place of each standard stream that is closed, so that no file which is opened later has its number."""
+    """Opens the null device in place of each standard stream that is closed: no file that is opened later has its number."""
     for number in (INPUT, OUTPUT, NOTES):
         try:
             os.fstat(number)
@@ -56,9 +56,11 @@ def encode(text: str) -> bytes:
     return text.encode(errors="backslashreplace")
 
 
-def put(output: Union[str, bytes]) -> None:
-    """Writes bytes, or a text and a line feed, to standard output. Where that fails it ends the tool, quietly if the reader of a pipe
-    has left."""
+def write_output(output: Union[str, bytes]) -> None:
+    """Writes bytes, or a text and a line feed, to standard output.
+
+    Where that fails it ends the tool, quietly if the reader of a pipe has left.
+    """
     data = output if isinstance(output, bytes) else encode(output + "\n")
     try:
         if OUTPUT in CLOSED:

@@ -1,4 +1,4 @@
-"""The cures of single cases: of a rule whose cure depends on what the line has, as the tables of docs/RULES.md tell it."""
+"""The cures of single cases: of a rule whose cure depends on what the line has, as the tables of docs/RULES.md have it."""
 from typing import Optional, Sequence
 
 from ..documents import RULES, rows, section, without_links
@@ -6,7 +6,7 @@ from ..lines import Placed, is_part, texts_of
 from ..repository import reserved_words
 
 # The cases of rules 4, 7 and 26 that docs/RULES.md has a cure of its own for.
-GROUP_BEHIND_MAIN = "a line `group` behind `main`"
+GROUP_AFTER_MAIN = "a line `group` after `main`"
 HAS_EVENTS = "the text has event ports"
 NO_MAIN = "no line `main`"
 SECOND_MAIN = "a second line `main`"
@@ -23,7 +23,7 @@ NO_FORM = "another line of a group without a form"
 def case_of(lines: Sequence[bytes], placed: Placed, rule: int) -> Optional[str]:
     """The case of a line that breaks rule 4, 7 or 26, where it is one with a cure of its own."""
     if rule == 4 and is_part(placed.tokens) and any(texts_of(line) == ["main"] for line in lines[: placed.number]):
-        return GROUP_BEHIND_MAIN
+        return GROUP_AFTER_MAIN
     if rule == 7 and any(texts_of(line)[:1] == ["event"] for line in lines):
         return HAS_EVENTS
     return case_in_groups(lines, placed) if rule == 26 else None

@@ -1,47 +1,22 @@
 """What a line does that breaks a rule from 8 to 24: which name, which operand, and which other line."""
 from typing import Callable, Dict, Iterator, List, NamedTuple, Optional, Sequence, Tuple
 
-from ..formatting import space
 from ..grammar import Leaves, Node, Reader
 from ..lines import NUMBER, Placed, Token, split_lines, tokens_of
-from ..nests import Declared, End, Flat, Nest, Origin, TooLarge, TooManyWays, Unit, read_nest
+from ..nests import Declared, End, Flat, Nest, Origin, TooLarge, Unit, read_nest
+from .kinds import BOOL, CONDITION, FORM_OF_LITERAL, INT, RESULT, Cause, Kinds, Wrong, kind_of_type
 
-# The cases that docs/RULES.md has a cure of its own for.
-ABSENT = "`absent` where a word is expected"
-CONDITION = "a condition that is no truth value"
-KINDS = "numbers of different kinds"
-WHOLE_DIVISION = "`/` of whole numbers"
-FIXED_DIVISION = "`div` or `mod` of numbers with decimals"
-TRUTH = "a truth value where a number is expected"
-NO_TRUTH = "a number where a truth value is expected"
-RESULT = "a result of another kind than its target"
-FORM_OF_LITERAL = "a literal of another form than its type"
+# The cases that docs/RULES.md has a cure of its own for, besides those of kinds.
 PLAIN_TO_EVENT = "a plain output to an event input"
 EVENT_TO_PLAIN = "an event output to a plain input"
-
-BOOL, INT = "Bool", "Int"
 
 # What an expression may use besides the parameters, states and inputs of its unit.
 USES = {"output": (), "max": ("t",), "step": ("t", "h")}
 
 
-class Cause(NamedTuple):
-    """What is to be said of a refusal, and the case of its cure, if it has one of its own."""
-
-    told: Tuple[str, ...] = ()
-    case: Optional[str] = None
-
-
-class Wrong(Exception):
-    """An expression that has no kind."""
-
-    def __init__(self, told: str, case: str) -> None:
-        super().__init__(told)
-        self.cause = Cause((told,), case)
-
-
 class Place(NamedTuple):
-    """Where a line stands that is refused: the text as it was read, the line, its unit, and its origin in the flat text."""
+    """A line that is refused: the text as it was read, the flat system, the line with its tokens, and its unit, if it is in
+    one."""
 
     nest: Nest
     flat: Optional[Flat]
@@ -64,107 +39,21 @@ class Place(NamedTuple):
 
 def cause_of(text: bytes, line: int, rule: int) -> Cause:
     """What is to be said of a line that breaks a rule, where something can be said."""
-    tell = TELLERS.get(rule)
+    explain = EXPLAINERS.get(rule)
     lines = split_lines(text)
-    if not tell or not 1 <= line <= len(lines):
+    if not explain or not 1 <= line <= len(lines):
         return Cause()
     nest = read_nest(text)
     found = [(unit, placed) for unit in nest.units for placed in unit.lines if placed.number == line]
     unit, placed = found[0] if found else (None, None)
-    return tell(Place(nest, flat_of(nest), line, tuple(tokens_of(lines[line - 1])), unit, placed))
+    return explain(Place(nest, flat_of(nest), line, tuple(tokens_of(lines[line - 1])), unit, placed))
 
 
 def flat_of(nest: Nest) -> Optional[Flat]:
     try:
         return Flat(nest)
-    except (TooLarge, TooManyWays):
+    except TooLarge:
         return None
-
-
-def kind_of_type(type_name: str) -> str:
-    return type_name if type_name == BOOL or type_name.startswith("Fixed") else INT
-
-
-def kind_of_number(text: str) -> str:
-    found = NUMBER.fullmatch(text)
-    return f"Fixed {len(found[2])}" if found and found[2] else INT
-
-
-class Kinds:
-    """The kinds of the expressions of a line."""
-
-    def __init__(self, tokens: Sequence[Token], declared: Dict[str, Declared]) -> None:
-        self.tokens = tokens
-        self.declared = declared
-
-    def told(self, node: Node) -> str:
-        return f"`{space([token.text for token in self.tokens[node.first : node.last]])}`"
-
-    def kind(self, node: Node, may_be_absent: bool = False) -> Optional[str]:
-        """The kind of an expression; none where it is absent."""
-        if node.text == "absent":
-            if not may_be_absent:
-                raise Wrong("`absent` is no word, and stands here where one is expected", ABSENT)
-            return None
-        if node.text == "if":
-            return self.choice(node, may_be_absent)
-        kinds = [self.kind(part) or INT for part in node.parts]
-        if node.text in ("and", "or", "not"):
-            self.each_is(node, kinds, BOOL)
-            return BOOL
-        if not node.parts:
-            return self.leaf(node.text)
-        if node.text == "int":
-            return INT
-        if node.text in ("==", "!="):
-            self.alike(node, kinds)
-            return BOOL
-        for part, kind in zip(node.parts, kinds):
-            if kind == BOOL:
-                raise Wrong(f"{self.told(part)} is a truth value, and `{node.text.split()[0]}` takes numbers", TRUTH)
-        self.alike(node, kinds)
-        return self.result(node, kinds)
-
-    def leaf(self, text: str) -> str:
-        if text in ("true", "false", "present"):
-            return BOOL
-        if text in self.declared:
-            return kind_of_type(self.declared[text].type)
-        return kind_of_number(text)
-
-    def result(self, node: Node, kinds: Sequence[str]) -> str:
-        if node.text.startswith("fix "):
-            return f"Fixed {node.text.split()[1]}"
-        if node.text == "/" and kinds[0] == INT:
-            raise Wrong(f"`/` takes numbers with decimals, and {self.told(node.parts[0])} is whole", WHOLE_DIVISION)
-        if node.text in ("div", "mod") and kinds[0] != INT:
-            raise Wrong(f"`{node.text}` takes whole numbers, and {self.told(node.parts[0])} is `{kinds[0]}`", FIXED_DIVISION)
-        return BOOL if node.text in ("<", "<=", ">", ">=") else kinds[0]
-
-    def choice(self, node: Node, may_be_absent: bool) -> Optional[str]:
-        condition, *branches = node.parts
-        self.is_truth(condition)
-        kinds = [self.kind(branch, may_be_absent) for branch in branches]
-        if None not in kinds:
-            self.alike(node._replace(parts=tuple(branches)), [kind or INT for kind in kinds])
-        return kinds[0] or kinds[1]
-
-    def is_truth(self, condition: Node) -> None:
-        kind = self.kind(condition)
-        if kind != BOOL:
-            raise Wrong(f"{self.told(condition)} is `{kind}`, and the condition of an `if` is a truth value", CONDITION)
-
-    def each_is(self, node: Node, kinds: Sequence[str], wanted: str) -> None:
-        for part, kind in zip(node.parts, kinds):
-            if kind != wanted:
-                raise Wrong(f"{self.told(part)} is `{kind}`, and `{node.text}` takes truth values", NO_TRUTH)
-
-    def alike(self, node: Node, kinds: Sequence[str]) -> None:
-        """All operands have one kind, but for those of a conversion."""
-        for part, kind in zip(node.parts[1:], kinds[1:]):
-            if kind != kinds[0]:
-                case = KINDS if BOOL not in (kind, kinds[0]) else TRUTH
-                raise Wrong(f"{self.told(node.parts[0])} is `{kinds[0]}`, and {self.told(part)} is `{kind}`", case)
 
 
 def expression_of(place: Place) -> Optional[Node]:
@@ -196,13 +85,13 @@ def unlike(place: Place) -> Cause:
         kind = kinds.kind(node, place.sort == "event output")
     except Wrong as wrong:
         return wrong.cause
-    first = place.texts[0]
+    first, target = place.texts[0], declared.get(target_of(place))
     if first == "if" and kind != BOOL:
-        return Cause((f"{kinds.told(node)} is `{kind}`, and the condition of an `if` is a truth value",), CONDITION)
-    taken = INT if first in ("max", "accept") else kind_of_type(declared[name].type) if (name := target_of(place)) in declared else kind
-    if kind not in (taken, None):
-        what = f"`{first}` takes whole numbers" if first in ("max", "accept") else f"`{target_of(place)}` is `{declared[target_of(place)].type}`"
-        return Cause((f"{kinds.told(node)} is `{kind}`, and {what}",), RESULT)
+        return Cause((f"{kinds.quoted(node)} is `{kind}`, and the condition of an `if` is a truth value",), CONDITION)
+    if first in ("max", "accept") and kind != INT:
+        return Cause((f"{kinds.quoted(node)} is `{kind}`, and `{first}` takes whole numbers",), RESULT)
+    if target and kind not in (kind_of_type(target.type), None):
+        return Cause((f"{kinds.quoted(node)} is `{kind}`, and `{target.name}` is `{target.type}`",), RESULT)
     return Cause()
 
 
@@ -233,7 +122,7 @@ def declared_at(place: Place) -> Optional[Declared]:
 
 
 def names_in(node: Node, tokens: Sequence[Token]) -> Iterator[str]:
-    """The names, and `t` and `h`, that an expression uses; what `present` asks about has its name behind the parenthesis."""
+    """The names, and `t` and `h`, that an expression uses; the name that `present` asks about comes after its parenthesis."""
     if node.text == "present":
         yield tokens[node.first + 2].text
     elif not node.parts:
@@ -249,17 +138,17 @@ def unknown(place: Place) -> Cause:
     flat_ends = [(start, end) for start, end, origin in (place.flat.connections if place.flat else ()) if origin.line == place.line]
     for start, end in flat_ends:
         for port, sort in ((start, "output"), (end, "input")):
-            told = told_end(place, port, sort)
-            if told:
-                return Cause((told,))
+            message = describe_end(place, port, sort)
+            if message:
+                return Cause((message,))
     for (end, _), line in place.flat.samples if place.flat else ():
-        told = told_end(place, end, "output") if line == place.line else ""
-        if told:
-            return Cause((told,))
+        message = describe_end(place, end, "output") if line == place.line else ""
+        if message:
+            return Cause((message,))
     return unknown_unit(place)
 
 
-def told_end(place: Place, end: End, sort: str) -> str:
+def describe_end(place: Place, end: End, sort: str) -> str:
     """What is wrong with an end of a flat connection, or nothing."""
     instances = place.flat.instances if place.flat else []
     unit_name = next((instance.unit for name, instance, _ in instances if name == end[0]), None)
@@ -298,13 +187,13 @@ def unknown_in_unit(place: Place, unit: Unit) -> Cause:
         return Cause((f"`{texts[0]}`, which is assigned, isn't declared in `{unit.name}`",))
     node = expression_of(place)
     for name in names_in(node, place.tokens) if node else ():
-        told = told_use(place, unit, name)
-        if told:
-            return Cause((told,))
+        message = describe_use(place, unit, name)
+        if message:
+            return Cause((message,))
     return Cause()
 
 
-def told_use(place: Place, unit: Unit, name: str) -> str:
+def describe_use(place: Place, unit: Unit, name: str) -> str:
     """Why an expression may not use a name, or nothing."""
     where = place.sort.split()[-1]
     said = {"output": "an output", "max": "`max`", "step": "a step"}.get(where, where)
@@ -371,6 +260,10 @@ def port_of(place: Place, end: End) -> Optional[Declared]:
     return None
 
 
+def describe_port(end: End, declared: Declared) -> str:
+    return f"`{end[0]}.{end[1]}` is `{declared.sort} {declared.name} : {declared.type}`, line {declared.line}"
+
+
 def unequal(place: Place) -> Cause:
     """Rule 14: the types of both ends."""
     for start, end, origin in place.flat.connections if place.flat else ():
@@ -378,9 +271,9 @@ def unequal(place: Place) -> Cause:
             continue
         ours, theirs = port_of(place, start), port_of(place, end)
         if ours and theirs and (ours.type != theirs.type or ours.is_event != theirs.is_event):
-            told = [f"`{port[0]}.{port[1]}` is `{found.sort} {found.name} : {found.type}`, line {found.line}" for port, found in ((start, ours), (end, theirs))]
+            ends = [describe_port(start, ours), describe_port(end, theirs)]
             case = None if ours.is_event == theirs.is_event else EVENT_TO_PLAIN if ours.is_event else PLAIN_TO_EVENT
-            return Cause((", and ".join(told),), case)
+            return Cause((", and ".join(ends),), case)
     return Cause()
 
 
@@ -391,8 +284,8 @@ def cycle(place: Place) -> Cause:
     if start is None:
         return Cause()
     ring = cycle_from(start, needs)
-    told = ", ".join(f"`{output[0]}.{output[1]}` needs `{source[0]}.{source[1]}` (line {line})" for output, source, line in ring)
-    return Cause((told,))
+    needed = (f"`{output[0]}.{output[1]}` needs `{source[0]}.{source[1]}` (line {line})" for output, source, line in ring)
+    return Cause((", ".join(needed),))
 
 
 Step = Tuple[End, End, int]
@@ -435,5 +328,5 @@ def assigned(place: Place) -> Cause:
     return Cause((f"`{declared.name}` is declared by `{declared.sort}` at line {declared.line}",)) if declared else Cause()
 
 
-TELLERS: Dict[int, Callable[[Place], Cause]] = {8: twice, 9: unknown, 10: unlike, 12: lacking, 13: connected_before}
-TELLERS.update({14: unequal, 15: cycle, 22: assigned})
+EXPLAINERS: Dict[int, Callable[[Place], Cause]] = {8: twice, 9: unknown, 10: unlike, 12: lacking, 13: connected_before}
+EXPLAINERS.update({14: unequal, 15: cycle, 22: assigned})

@@ -1,4 +1,4 @@
-"""Rules 4 and 26: what form a line has to have where it stands, where it leaves that, and the right line that is nearest to it."""
+"""Rules 4 and 26: the form of a line in its place, the token at which the line leaves it, and the nearest right line."""
 import difflib
 import functools
 import re
@@ -16,7 +16,7 @@ MOST_CHANGES = 2
 # The letters of so many forms at most are explained.
 MOST_EXPLAINED = 3
 
-# The least likeness of two words where one is told of in place of the other.
+# The least likeness of two words where a row about the one is shown for the other.
 LEAST_LIKENESS = 0.6
 
 # The signs of forms, by which alone lines aren't alike.
@@ -32,7 +32,7 @@ LETTERS.update({"Z": "0 to 10,000", "R": "1 to 100,000", "K": "1 to 1,000"})
 
 
 class Example(NamedTuple):
-    """A line that a row of rule 4 tells of, with the place that its table is about, and where it leaves the forms there."""
+    """A line of a row of rule 4, with a place where such a line may be meant, and where it leaves the forms there."""
 
     row: Row
     place: str
@@ -45,16 +45,18 @@ def form_for(placed: Placed, version: int) -> str:
     for place in (placed.place, *(other for other in PLACES[:-1] if other != placed.place)):
         begun = begun_forms(placed, place, version)
         if begun:
-            return told_forms(begun, place)
+            return describe_forms(begun, place)
     begun = begun_forms(placed, placed.place, 2)
     if begun:
-        return told_forms(begun, placed.place) + "; this form is of version 2, whose header is `cosim 2`"
-    return told_forms(forms_at(placed.place, version), placed.place)
+        return describe_forms(begun, placed.place) + "; this form is of version 2, whose header is `cosim 2`"
+    return describe_forms(forms_at(placed.place, version), placed.place)
 
 
 def begun_forms(placed: Placed, place: str, version: int) -> List[Form]:
-    """The forms of a place that begin with the first word of a line, or with a name where that may be one. Elsewhere than in its place
-    it is one where the sign behind it is that of the form."""
+    """The forms of a place that begin with the first word of a line, or with a name where that word may be one.
+
+    In another place than its own it may be one only before the sign of the form.
+    """
     first, second = (placed.tokens + ["", ""])[:2]
     forms = forms_at(place, version)
     begun = [form for form in forms if form.parts[0] == first and len(first) > 1]
@@ -65,14 +67,14 @@ def begun_forms(placed: Placed, place: str, version: int) -> List[Form]:
     return [form for form in forms if len(form.parts[0]) == 1 and (place == placed.place or second == form.parts[1])]
 
 
-def told_forms(forms: Sequence[Form], place: str) -> str:
+def describe_forms(forms: Sequence[Form], place: str) -> str:
     if len(forms) > MOST_EXPLAINED:
         return f"{', '.join(f'`{form.text}`' for form in forms)}, {place}"
     letters = ", ".join(f"{letter} is {what}" for letter, what in LETTERS.items() if any(letter in form.parts for form in forms))
     return f"{' or '.join(f'`{form.text}`' for form in forms)}, {place}" + (f"; {letters}" if letters else "")
 
 
-def told_fault(tokens: Sequence[Token], fault: Fault, place: str) -> str:
+def describe_fault(tokens: Sequence[Token], fault: Fault, place: str) -> str:
     """What is expected where a line leaves its form."""
     expected = " or ".join(fault.expected)
     if fault.place == len(tokens):
@@ -89,7 +91,7 @@ def told_fault(tokens: Sequence[Token], fault: Fault, place: str) -> str:
 
 @functools.lru_cache(maxsize=None)
 def examples(version: int) -> Tuple[Example, ...]:
-    """The lines of the tables of rule 4, each in the places where a line of its table may stand."""
+    """The lines of the tables of rule 4, each in the places where such a line may be meant."""
     found: List[Example] = []
     for table in tables(section(RULES, "Rule 4:")):
         for row in table:
@@ -103,8 +105,10 @@ def examples(version: int) -> Tuple[Example, ...]:
 
 
 def places_of(line: Sequence[Token], right: str) -> Tuple[str, ...]:
-    """The places that an example is about: those where its right lines have a form, and those where it has one in version 2; where
-    there is none of these, those where it goes on furthest."""
+    """The places that an example is about: those where its right lines have a form, and those where it has one in version 2.
+
+    Where there is none of these, it is about those where it goes on furthest.
+    """
     others = [tokens_of(other.encode()) for other in re.findall(r"`([^`]*)`", right)]
     places = {place for place in PLACES[:-1] for other in others if texts(other) != ["end"] and fault_at(other, place, 2) is None}
     reached = {place: (fault.place if fault else len(line) + 1) for place in PLACES[:-1] for fault in (fault_at(line, place, 2),)}
@@ -138,8 +142,10 @@ def before(tokens: Sequence[Token], fault: Fault) -> str:
 
 
 def is_alike(tokens: Sequence[Token], fault: Fault, example: Example) -> bool:
-    """Whether two tokens by which lines leave a form are of a kind: a name or a number behind what is of a kind too, and a sign, or
-    none, in lines that begin alike."""
+    """Whether the tokens by which two lines leave their forms are of a kind.
+
+    Names and numbers are, after tokens that are of a kind too; signs are, and ends of lines, in lines that begin alike.
+    """
     found, other = found_at(tokens, fault), found_at(example.tokens, example.fault)
     if fault.expected == (NAME,) and {found, other} <= reserved_words():
         return True
@@ -157,29 +163,40 @@ def is_telling_token(token: str) -> bool:
 
 
 def likeness(tokens: Sequence[Token], fault: Fault, example: Example) -> float:
-    """How much a line is like one of the tables, from 0 for not at all. Both leave their forms by the same token, which says much
-    unless it is one that forms have; or by tokens of a kind behind alike ones, where the same is expected."""
+    """How much a line is like one of the tables, from 0 for not at all.
+
+    Both leave their forms by the same token, which says much unless forms have it too; or by tokens of a kind, after alike ones,
+    where the same is expected.
+    """
     found, other = found_at(tokens, fault), found_at(example.tokens, example.fault)
     is_expected = fault.expected == example.fault.expected
     is_telling = found == other and is_telling_token(found)
-    if not (is_expected or is_telling):
+    if not is_telling and not (is_expected and is_alike(tokens, fault, example)):
         return 0
-    if not is_telling and not is_alike(tokens, fault, example):
-        return 0
-    nearness = alike(found, other) if kind_of(found) == "misspelt number" else 1.0
-    if not fault.place and kind_of(found) == "name":
-        nearness = likeness_of_beginnings(tokens, example.tokens)
-    elif kind_of(found) == "name" or (fault.place == 1 and kind_of(tokens[0].text) == "name" and found not in SIGNS):
-        at = min(fault.place, 0 if kind_of(tokens[0].text) == "name" and fault.place == 1 else fault.place)
-        nearness = alike(tokens[at].text, example.tokens[at].text)
+    nearness = nearness_of_words(tokens, fault, example)
     if nearness < LEAST_LIKENESS and kind_of(found) != "misspelt number":
         return 0
-    shape = difflib.SequenceMatcher(None, [kind_of(text) for text in texts(tokens)], [kind_of(text) for text in texts(example.tokens)])
-    return 1 + is_telling + is_expected + nearness + shape.ratio() + (tokens[0].text == example.tokens[0].text)
+    shape, other_shape = ([kind_of(token.text) for token in line] for line in (tokens, example.tokens))
+    same_beginning = tokens[0].text == example.tokens[0].text
+    likeness_of_shapes = difflib.SequenceMatcher(None, shape, other_shape).ratio()
+    return 1 + is_telling + is_expected + nearness + same_beginning + likeness_of_shapes
+
+
+def nearness_of_words(tokens: Sequence[Token], fault: Fault, example: Example) -> float:
+    """How much the words are alike by which two lines leave their forms: the first ones where these begin no form."""
+    found, first = tokens[fault.place].text if fault.place < len(tokens) else "", tokens[0].text
+    if not fault.place and kind_of(found) == "name":
+        return likeness_of_beginnings(tokens, example.tokens)
+    if fault.place == 1 and kind_of(first) == "name" and found not in SIGNS:
+        return alike(first, example.tokens[0].text)
+    if kind_of(found) in ("name", "misspelt number"):
+        return alike(found, found_at(example.tokens, example.fault))
+    return 1
 
 
 def likeness_of_beginnings(tokens: Sequence[Token], others: Sequence[Token]) -> float:
-    """How much two lines that begin with a name are alike: by what looks like a call, or by the word, be it no single letter."""
+    """How much two lines that begin with a name are alike: by what looks like a call, or by the word, be it no single
+    letter."""
     are_calls = all(len(line) > 1 and line[1].text == "(" for line in (tokens, others))
     if are_calls or len(tokens[0].text) == 1:
         return float(are_calls)
@@ -191,8 +208,10 @@ def alike(one: str, other: str) -> float:
 
 
 def like(tokens: Sequence[Token], placed: Placed, version: int, fault: Fault) -> Optional[Row]:
-    """The row of rule 4 whose line is most like this one: of its place, or of another one where the token by which both leave their
-    forms says enough."""
+    """The row of rule 4 whose line is most like this one.
+
+    It is of the same place, or of another one if the token by which both lines leave their forms says enough.
+    """
     others = PLACES[:-1] if fault.place and is_telling_token(found_at(tokens, fault)) else ()
     for places in ((placed.place,), others):
         scored = [(likeness(tokens, fault, example), example.row) for example in examples(version) if example.place in places]
@@ -202,13 +221,15 @@ def like(tokens: Sequence[Token], placed: Placed, version: int, fault: Fault) ->
     return None
 
 
-def told_row(row: Row) -> str:
+def describe_row(row: Row) -> str:
     return without_links(f"{row['line']}: {row['why']}; right: {row['right']}", RULES)
 
 
 def nearest(tokens: Sequence[Token], place: str, version: int) -> Optional[str]:
-    """The line with a form that differs from a line in the fewest signs, if so few do. Nothing that says something is left out, and
-    names and expressions aren't made up."""
+    """The line with a form that differs from a line in the fewest signs, if so few do.
+
+    Nothing that says something is left out, and names and expressions aren't made up.
+    """
     reached = [joined(tokens)]
     for _ in range(MOST_CHANGES):
         reached = [other for line in reached for other in changes(line, place, version)]
@@ -252,8 +273,9 @@ def changes(line: List[str], place: str, version: int) -> Iterator[List[str]]:
             yield [*front, text, *rest]
         if text != ":=" and text not in ("(", "then", "else"):
             yield [*front, text, *line[at:]]
-    is_sign = found == "+" and fault.expected not in ((LITERAL,), (EXPRESSION,))
-    if (found in NEEDLESS and not is_sign) or (WORD.fullmatch(found) and fault.expected == (END,) and NUMBER.fullmatch(line[at - 1])) or line[0] == "end":
+    is_operator = found == "+" and fault.expected not in ((LITERAL,), (EXPRESSION,))
+    is_measure = WORD.fullmatch(found) and fault.expected == (END,) and NUMBER.fullmatch(line[at - 1])
+    if (found in NEEDLESS and not is_operator) or is_measure or line[0] == "end":
         yield front + rest
 
 

@@ -13,9 +13,11 @@ TRACE_TABLE = re.compile(rb"\"?time\"?,\"?index\"?,")
 TRACE = re.compile(rb"^[ \t]*trace[ \t\r]*(?:#.*)?$", re.M)
 NESTED = re.compile(rb"^[ \t]*(?:main|group[ \t]+\w+)[ \t\r]*(?:#.*)?$", re.M)
 
+OF_TRACE = "the table of a trace, which is no model: append it to a model and a line `trace`, and ask ./cosim verify"
+
 
 class Input(NamedTuple):
-    """The text that is judged, the command that judges it, and how it is told that the text is accepted."""
+    """The text that is judged, the command that judges it, and what ./explain prints where the text is accepted."""
 
     text: bytes
     command: str
@@ -31,9 +33,10 @@ def read_kind(data: bytes, shown: str) -> Input:
     if SAVED.match(data):
         return Input(data[: LONGEST_SAVED + 1], "resume", f"accepted by resume; run it by ./cosim resume < {shown}")
     if TRACE_TABLE.match(data):
-        return Input(data, "", "the table of a trace, which is no model: put it behind a model and a line `trace`, and ask ./cosim verify")
+        return Input(data, "", OF_TRACE)
     if TABLE.match(data):
-        return Input(data[: LONGEST_TEXT + 1], "stimulus", f"accepted by stimulus; make a model of it by ./cosim stimulus < {shown}")
+        accepted = f"accepted by stimulus; make a model of it by ./cosim stimulus < {shown}"
+        return Input(data[: LONGEST_TEXT + 1], "stimulus", accepted)
     text, *table = TRACE.split(data, maxsplit=1)
     text = text[: LONGEST_TEXT + 1]
     if has_groups(text):

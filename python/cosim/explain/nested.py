@@ -4,14 +4,18 @@ Rules 8 to 24 are reported at a line of the flat text, which isn't printed. Each
 groups, so this is found by making the flat text's lines again. Rules 27 to 30 are reported at the first line of a group, or at
 `main`: the line inside is the first that breaks the rule as docs/RULES.md has it.
 """
+import collections
 from typing import Dict, Iterator, NamedTuple, Optional, Sequence, Set, Tuple
 
-from ..nests import End, Flat, Instance, Link, Nest, Origin, Part, TooLarge, TooManyWays, read_nest
+from ..nests import End, Flat, Instance, Link, Nest, Origin, Part, TooLarge, read_nest
 
 # The rules that are reported at a line of the flat text.
 OF_FLAT_TEXTS = range(8, 25)
 
-# More lines on the way than so many aren't told.
+# Those that are reported at the first line of a group, or at `main`.
+OF_GROUPS = range(27, 31)
+
+# Of more lines on the way the first ones are printed.
 MOST_WAYS = 8
 
 
@@ -19,11 +23,13 @@ class Guilty(NamedTuple):
     """A line of a text with groups, and what is to be said of it."""
 
     line: int
-    told: Tuple[str, ...] = ()
+    details: Tuple[str, ...] = ()
 
 
 def guilty(text: bytes, line: int, rule: int) -> Optional[Guilty]:
     """The line of a text with groups that breaks a rule which is reported at another line; nothing where none can be named."""
+    if rule not in OF_FLAT_TEXTS and rule not in OF_GROUPS:
+        return None
     nest = read_nest(text)
     try:
         if rule in OF_FLAT_TEXTS:
@@ -39,8 +45,6 @@ def guilty(text: bytes, line: int, rule: int) -> Optional[Guilty]:
             Flat(nest)
     except TooLarge as large:
         return Guilty(large.line, (large.why,))
-    except TooManyWays:
-        pass
     return None
 
 
@@ -52,16 +56,20 @@ def guilty_of_flat(nest: Nest, line: int, rule: int) -> Optional[Guilty]:
     origin = origins[line - 1]
     if rule == 8 and origin.flat.startswith("instance "):
         return second_of_a_name(flat, origin)
-    return Guilty(origin.line, told_origin(origin))
+    return Guilty(origin.line, describe_origin(origin))
 
 
-def told_origin(origin: Origin) -> Tuple[str, ...]:
+def describe_origin(origin: Origin) -> Tuple[str, ...]:
     """What the flat text has in place of a line with names of groups, and by way of which lines."""
     if not origin.ways:
         return ()
-    lines = ", ".join(map(str, origin.ways[:MOST_WAYS])) + (", .." if len(origin.ways) > MOST_WAYS else "")
-    told = f"`{origin.flat}`" if origin.flat else "a line"
-    return (f"it is {told} of the flat text, by way of line{'s' if len(origin.ways) > 1 else ''} {lines}",)
+    flat = f"`{origin.flat}`" if origin.flat else "a line"
+    return (f"it is {flat} of the flat text, by way of {describe_ways(origin.ways)}",)
+
+
+def describe_ways(lines: Sequence[int]) -> str:
+    shown = ", ".join(map(str, lines[:MOST_WAYS])) + (", .." if len(lines) > MOST_WAYS else "")
+    return f"line{'s' if len(lines) > 1 else ''} {shown}"
 
 
 def second_of_a_name(flat: Flat, origin: Origin) -> Guilty:
@@ -73,33 +81,41 @@ def second_of_a_name(flat: Flat, origin: Origin) -> Guilty:
     return Guilty(ours[apart], (f"the component `{name}` comes of line {theirs[apart]} too",))
 
 
-def ill_named(nest: Nest, line: int) -> Guilty:
+def ill_named(nest: Nest, line: int) -> Optional[Guilty]:
     """Why the name of a group isn't its own."""
-    group = next(group for group in nest.groups if group.line == line)
-    unit = nest.unit(group.name)
-    others = [other.line for other in nest.groups if other.name == group.name and other.line != line] + ([unit.line] if unit else [])
-    if others:
-        return Guilty(line, (f"line {others[0]} has the name `{group.name}` too",))
+    group = next((group for group in nest.groups if group.line == line), None)
+    if group is None:
+        return None
+    named = [(other.name, other.line) for other in nest.groups] + [(unit.name, unit.line) for unit in nest.units]
+    same = next((other for name, other in named if name == group.name and other != line), None)
+    if same:
+        return Guilty(line, (f"line {same} has the name `{group.name}` too",))
     return Guilty(line, ("the group has no instance",))
 
 
 def leads_back(nest: Nest, line: int) -> Optional[Guilty]:
-    """The instance by which a group contains itself, and the instances on the way."""
-    start = next(group for group in nest.groups if group.line == line)
-    ways: Dict[str, Tuple[Instance, ...]] = {start.name: ()}
-    waiting = [start]
-    while waiting:
-        group = waiting.pop(0)
+    """The instance by which a group contains itself, and the instances on the way back."""
+    start = next((group for group in nest.groups if group.line == line), None)
+    if start is None:
+        return None
+    reached: Dict[str, Tuple[Part, Instance]] = {}
+    waiting = collections.deque([start])
+    while waiting and start.name not in reached:
+        group = waiting.popleft()
         for instance in group.instances:
-            way = (*ways[group.name], instance)
             inner = nest.group(instance.unit)
-            if inner is start:
-                lines = ", ".join(str(step.line) for step in way[1:])
-                return Guilty(way[0].line, (f"it leads back by way of line{'s' if len(way) > 2 else ''} {lines}",) if lines else ())
-            if inner and inner.name not in ways:
-                ways[inner.name] = way
+            if inner and inner.name not in reached:
+                reached[inner.name] = group, instance
                 waiting.append(inner)
-    return None
+    if start.name not in reached:
+        return None
+    group, instance = reached[start.name]
+    ways = [instance.line]
+    while group is not start:
+        group, instance = reached[group.name]
+        ways.append(instance.line)
+    first, *others = reversed(ways)
+    return Guilty(first, (f"it leads back by way of {describe_ways(others)}",) if others else ())
 
 
 def missing(nest: Nest, part: Part) -> Iterator[Guilty]:
@@ -107,10 +123,10 @@ def missing(nest: Nest, part: Part) -> Iterator[Guilty]:
     names: Set[str] = set()
     for link in part.ins:
         if not has_port(nest, part, link.end, "input"):
-            yield Guilty(link.line, (told_missing(nest, part, link.end, "input"),))
+            yield Guilty(link.line, (describe_missing(nest, part, link.end, "input"),))
     for link in part.outs:
         if not has_port(nest, part, link.start, "output"):
-            yield Guilty(link.line, (told_missing(nest, part, link.start, "output"),))
+            yield Guilty(link.line, (describe_missing(nest, part, link.start, "output"),))
         if link.end[1] in names:
             yield Guilty(link.line, (f"another `out` line has the name `{link.end[1]}`",))
         names.add(link.end[1])
@@ -126,7 +142,7 @@ def missing_ends(nest: Nest, part: Part, link: Link) -> Iterator[Guilty]:
     for end, sort in ((link.start, "output"), (link.end, "input")):
         instance = part.instance(end[0])
         if instance and nest.group(instance.unit) and not has_port(nest, part, end, sort):
-            yield Guilty(link.line, (told_missing(nest, part, end, sort),))
+            yield Guilty(link.line, (describe_missing(nest, part, end, sort),))
             return
 
 
@@ -143,7 +159,7 @@ def has_port(nest: Nest, part: Part, end: End, sort: str) -> bool:
     return instance is not None and end[1] in ports_of(nest, instance, sort)
 
 
-def told_missing(nest: Nest, part: Part, end: End, sort: str) -> str:
+def describe_missing(nest: Nest, part: Part, end: End, sort: str) -> str:
     instance = part.instance(end[0])
     if instance is None:
         return f"there is no instance `{end[0]}` here"

@@ -34,14 +34,14 @@ MOST_COLUMNS = 16
 MOST_TIMES = 20
 LATEST = 10**9
 LARGEST = 10**15
-WHOLE = re.compile(r"-?(0|[1-9][0-9]*)")
+WHOLE = re.compile(r"-?(0|[1-9][0-9]{0,17})")
 
 
 class Reason(NamedTuple):
     """A line of the input, from 1, what is wrong there, and the case of its cure."""
 
     line: int
-    told: str
+    message: str
     case: str
 
 
@@ -111,29 +111,34 @@ def records_of(table: bytes) -> Iterator[Tuple[int, List[str]]]:
 
 def unfit_record(table: bytes, number: int) -> Optional[Reason]:
     """What is wrong with the record of a number, from 1, of a table for `stimulus`."""
-    records = list(records_of(table))
+    try:
+        records = list(records_of(table))
+    except csv.Error:
+        return None
     if number > len(records):
-        return Reason(records[-1][0] if records else 1, "a record is missing behind the last one", RECORDS)
+        return Reason(records[-1][0] if records else 1, "a record is missing after the last one", RECORDS)
     (line, record), (_, first) = records[number - 1], records[0]
     if number == 1:
-        return Reason(line, told_header(record), FIRST_RECORD)
+        return Reason(line, describe_header(record), FIRST_RECORD)
     if number > MOST_TIMES + 1:
-        return Reason(line, f"it is the record of number {number - 1} behind the first, and there are at most {MOST_TIMES}", RECORDS)
+        return Reason(line, f"it is the record of number {number - 1} after the first, and there are at most {MOST_TIMES}", RECORDS)
     if len(record) != len(first):
         return Reason(line, f"it has {len(record)} fields, and the first record has {len(first)}", FIELDS)
-    told = told_time(record[0], records[number - 2][1][0] if number > 2 else None)
-    if told:
-        return Reason(line, told, TIMES)
+    message = describe_time(record[0], records[number - 2][1][0] if number > 2 else None)
+    if message:
+        return Reason(line, message, TIMES)
     wrong = next((word for word in record[1:] if not is_word(word)), None)
-    return Reason(line, f"`{wrong}` is no whole number from -10^15 to 10^15, or isn't written in the shortest way", WORDS_OF_TABLE) if wrong is not None else None
+    if wrong is None:
+        return None
+    return Reason(line, f"`{wrong}` is no whole number from -10^15 to 10^15, or isn't written in the shortest way", WORDS_OF_TABLE)
 
 
 def is_word(word: str) -> bool:
     return bool(WHOLE.fullmatch(word)) and word != "-0" and abs(int(word)) <= LARGEST
 
 
-def told_time(time: str, before: Optional[str]) -> str:
-    """What is wrong with a time behind another one, or nothing."""
+def describe_time(time: str, before: Optional[str]) -> str:
+    """What is wrong with a time after another one, or nothing."""
     if not WHOLE.fullmatch(time) or time.startswith("-") or int(time) > LATEST:
         return f"`{time}` is no whole number of seconds from 0 to 1,000,000,000, or isn't written in the shortest way"
     if before is None:
@@ -141,11 +146,11 @@ def told_time(time: str, before: Optional[str]) -> str:
     return "" if int(time) > int(before) else f"the time {time} isn't later than {before}"
 
 
-def told_header(names: List[str]) -> str:
+def describe_header(names: List[str]) -> str:
     if names[0] != "time":
         return f"it begins with `time`, and not with `{names[0]}`"
     if not 2 <= len(names) <= MOST_COLUMNS + 1:
-        return f"behind `time` it has 1 to {MOST_COLUMNS} names, and not {len(names) - 1}"
+        return f"after `time` it has 1 to {MOST_COLUMNS} names, and not {len(names) - 1}"
     for place, name in enumerate(names[1:], 1):
         if name in names[1:place]:
             return f"it has the name `{name}` twice"

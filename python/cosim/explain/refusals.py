@@ -8,17 +8,20 @@ from ..streams import escaped
 from . import cases, causes, forms, nested, positions
 from .inputs import SAVED, has_groups
 
-# How much of a line is shown, in characters.
+# How much of a line is shown, and of what is said of it, in characters.
 LONGEST_SHOWN = 200
+LONGEST_DETAIL = 1_000
 
 # The rules of lines without a form, at the top of a text and in a group.
 WITHOUT_FORM = (4, 26)
 
 
 class Advice(NamedTuple):
-    """What there is to say of a refusal. `line` is the guilty line of the text, or None where no single line of it is, and `rule` the
-    rule that it breaks. `title` tells what is wrong, and `cure` what mends it. `details` has lines such as `here: ..`, each a word and
-    what it tells."""
+    """What there is to say of a refusal.
+
+    `line` is the guilty line of the text, or None where no single line of it is, and `rule` the rule that it breaks. `title`
+    says what is wrong, and `cure` what mends it. `details` has lines such as `here: ..`, each a word and what it explains.
+    """
 
     line: Optional[int]
     rule: int
@@ -30,30 +33,32 @@ class Advice(NamedTuple):
 def advice(text: bytes, line: int, rule: int) -> Advice:
     """Explains a refusal, by the documents and the text alone, but for rule 33, which asks the program.
 
-    `text` is the text that was refused, as the command read it: a model, one with groups, a saved text, or a table. `line` and `rule`
-    are those of the note `cosim: line L: rule R`. Of a text with groups the line may be one of the flat text, as `flatten` has it.
+    `text` is the text that was refused, as the command read it: a model, one with groups, a saved text, or a table. `line`
+    and `rule` are those of the note `cosim: line L: rule R`. Of a text with groups the line may be one of the flat text, as
+    `flatten` reports it.
     """
     entry = read_titles()[rule]
     title, cure = (without_links(entry[column], RULES) for column in ("what is wrong", "cure"))
     if rule in (33, 36):
         return advice_on_position(text, line, rule, title, cure)
-    told: List[str] = []
+    described: List[str] = []
     found = line
     if has_groups(text) and not SAVED.match(text):
         guilty = nested.guilty(text, line, rule)
         if guilty:
-            found, told = guilty.line, [*guilty.told]
+            found, described = guilty.line, [*guilty.details]
         elif rule in nested.OF_FLAT_TEXTS:
             return Advice(None, rule, title, cure, (f"here: it is line {line} of the flat text",))
     cause = causes.cause_of(without_position(text), found, rule)
     case = cause.case
-    details = [f"here: {words}" for words in (*told, *cause.told)]
+    details = [f"here: {words}" for words in (*described, *cause.details)]
     if rule in WITHOUT_FORM or rule == 7:
         lines = split_lines(text)
         placed = placed_at(text, found)
         case = cases.case_of(lines, placed, rule) if placed else None
         details += details_of_form(lines, placed, rule, case) if placed else []
-    return Advice(found, rule, title, (case and cases.cure_of(rule, case)) or cure, tuple(details))
+    shortened = tuple(at_a_glance(detail, LONGEST_DETAIL) for detail in details)
+    return Advice(found, rule, title, (case and cases.cure_of(rule, case)) or cure, shortened)
 
 
 def without_position(text: bytes) -> bytes:
@@ -68,11 +73,12 @@ def without_position(text: bytes) -> bytes:
 
 
 def advice_on_position(text: bytes, line: int, rule: int, title: str, cure: str) -> Advice:
-    """On a saved position, or on a record of a table, whose number stands in place of a line."""
+    """On a saved position, or on a record of a table, whose number is in the place of a line's."""
     reason = positions.unfit_position(text) if rule == 33 else positions.unfit_record(text, line)
     if reason is None:
         return Advice(line if rule == 33 else None, rule, title, cure)
-    return Advice(reason.line, rule, title, cases.cure_of(rule, reason.case) or cure, (f"here: {reason.told}",))
+    detail = at_a_glance(f"here: {reason.message}", LONGEST_DETAIL)
+    return Advice(reason.line, rule, title, cases.cure_of(rule, reason.case) or cure, (detail,))
 
 
 def placed_at(text: bytes, line: int) -> Optional[Placed]:
@@ -88,19 +94,22 @@ def version_of(lines: List[bytes]) -> int:
 def details_of_form(lines: List[bytes], placed: Placed, rule: int, case: Optional[str]) -> List[str]:
     """Where a line leaves its form, the form, a line of the documents that is like it, and the nearest right line."""
     tokens, version = tokens_of(lines[placed.number - 1]), version_of(lines)
-    if rule == 7 or not tokens or case in (cases.NO_MAIN, cases.SECOND_MAIN, cases.BEFORE_GROUPS, cases.GROUP_BEHIND_MAIN):
+    if rule == 7 or not tokens or case in (cases.NO_MAIN, cases.SECOND_MAIN, cases.BEFORE_GROUPS, cases.GROUP_AFTER_MAIN):
         return []
     fault = fault_at(tokens, placed.place, version)
     if fault is None:
         return []
-    details = [f"here: {forms.told_fault(tokens, fault, placed.place)}", f"form: {forms.form_for(placed, version)}"]
+    details = [f"here: {forms.describe_fault(tokens, fault, placed.place)}", f"form: {forms.form_for(placed, version)}"]
     row = forms.like(tokens, placed, version, fault) if placed.place != IN_GROUP else None
     right = forms.nearest(tokens, placed.place, version)
-    return details + ([f"like it: {forms.told_row(row)}"] if row else []) + ([f"right: {right}"] if right else [])
+    return details + ([f"like it: {forms.describe_row(row)}"] if row else []) + ([f"right: {right}"] if right else [])
 
 
 def shown(line: bytes) -> str:
-    """A line as it can be shown: what has no sign of its own by its number, and not more than is read at a glance. The carriage return
-    that belongs to its end isn't shown."""
-    text = (line[:-1] if line.endswith(b"\r") else line).decode(errors="backslashreplace")
-    return escaped(text[:LONGEST_SHOWN]) + (" .." if len(text) > LONGEST_SHOWN else "")
+    """A line as it can be shown, without the carriage return that belongs to its end."""
+    return at_a_glance((line[:-1] if line.endswith(b"\r") else line).decode(errors="backslashreplace"), LONGEST_SHOWN)
+
+
+def at_a_glance(text: str, longest: int) -> str:
+    """A text with each sign that can't be seen by its number, and not more of it than is read at a glance."""
+    return escaped(text[:longest]) + (" .." if len(text) > longest else "")
