@@ -1,18 +1,10 @@
-//! Tests of what no command reaches: words that are no valid code, literals by themselves, texts that are put behind others,
+//! Tests of what no command reaches: words that are no valid code, literals by themselves, texts that are written after others,
 //! systems without a plan, systems that are copied or can't be printed, the ends of inputs, reports of runs, ports that are
-//! solved one by one, what a run lends and wants, and what it puts from any position.
+//! solved one by one, what a run lends and requires, what it prints from any position, saved positions, and tables.
 //!
-//! What is expected is worked out by hand. `StepLaws` of `proofs/` shows that a phase that wants no step can be settled, and
-//! `WordLaws` that 1 is a word of each type. All else is asked of the built program, by the texts of `tests/`.
-//!
-//! `lane_tests`, which has the tests of answers, lanes and worlds, uses [`plan_of`] and [`settle`].
+//! What is expected is worked out by hand. `WordLaws` of `proofs/` proves that 1 is a word of each type. All else is asked of the built
+//! program, by the texts of `tests/`.
 #![tactic(auto)]
-
-mod opening;
-mod stepping;
-
-pub use opening::{perhaps_plan, plan_of};
-pub use stepping::{settle, step};
 
 #[cfg(test)]
 mod codes;
@@ -27,6 +19,10 @@ mod rests;
 #[cfg(test)]
 mod runs;
 #[cfg(test)]
+mod saved;
+#[cfg(test)]
 mod systems;
+#[cfg(test)]
+mod tables;
 #[cfg(test)]
 mod wants;

@@ -1,7 +1,7 @@
 //! Worlds: what may happen to them, and what is refused.
 use crate::guesses::policy_of;
 use crate::script::{numbers_of, words_of};
-use guess_board::Policy;
+use guess_board::{LaneCounts, Policy};
 use spec_core::{Event, World};
 use std::alloc::Global;
 use std::sync::Arc;
@@ -38,11 +38,17 @@ fn event_of(name: &str, numbers: &[u32]) -> Option<Event> {
     }
 }
 
+/// The counts of the first lane. Each world has one.
+fn first_counts(world: &World) -> LaneCounts {
+    world.facts();
+    world.lane(0).counts()
+}
+
 /// Makes a call that is no event.
 fn ask(rt: &HostRuntime, world: &mut World, call: &str) -> Result<(), Fail> {
     match call {
         "drain" => println!(rt; "{call}: {}", world.drain())?,
-        "counts" => println!(rt; "{call}: {:?}", world.lane(0).counts())?,
+        "counts" => println!(rt; "{call}: {:?}", first_counts(world))?,
         "steps" => {
             println!(rt;
                 "{call}: found {}, own {}",
