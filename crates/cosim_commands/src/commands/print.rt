@@ -13,7 +13,7 @@ use unit_print::print_system;
 use unit_tree::System;
 
 /// The canonical text of a system.
-#[tactic(auto, unfolding(crate::specs::Accepted::printed_text))]
+#[tactic(auto, unfolding(cosim_answers::specs::Accepted::printed_text))]
 pub(crate) fn canonical(alloc: Global, system: &System) -> Result<Vec<u8>, NoMemory>
     ensures { IfOk result (λ text. text.items ≡ printed_text system.now) }
 {
