@@ -206,12 +206,19 @@ judge_words() {
   fi
 }
 
+# Whether a word is the name of a file that is no input of `verify`, since no line of it is the word `trace`.
+lacks_trace() {
+  [[ -f $1 && -r $1 ]] && ! grep -aqE '^[[:blank:]]*trace[[:blank:]]*(#.*)?$' <"$1"
+}
+
 # Shows a call that reads the files on standard input.
 show_call() {
   local call
   printf -v call '%q ' "$0" "${formed[@]}"
   if [ "${#files[@]},${formed[*]}" = 2,verify ]; then
     printf -v call '%s< <(cat %q; echo trace; cat %q)' "$call" "${files[@]}"
+  elif [ "${#files[@]},${formed[*]}" = 1,verify ] && lacks_trace "${files[0]}"; then
+    printf -v call '%s< <(cat %q; echo trace; cat TRACE)' "$call" "${files[0]}"
   elif ((${#files[@]} == 1)) && [[ ${files[0]} != @(|-) ]]; then
     printf -v call '%s< %q' "$call" "${files[0]}"
   else
