@@ -2,6 +2,9 @@
 # The commands of the program: ./cosim judges words and prints its help by this table, and tools/completion.bash completes
 # words by it. The tables of docs/COMMANDS.md have the same commands and options, and .ci/tools compares both.
 
+# The version, as CHANGELOG.md has it first and as the package of Python has it.
+cosim_version=0.1.0
+
 # The commands in the order of the help. Of each: what it reads, its options and what it prints.
 cosim_commands=()
 declare -gA cosim_reads=() cosim_options=() cosim_prints=()
