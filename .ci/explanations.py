@@ -9,8 +9,16 @@ import re
 
 from common import cured, read, read_mistakes
 
-# What stands before a line of a text, by the place that it is to stand in.
-BEFORE = {"outside": [], "unit": ["unit A"], "step": ["unit A", "step"], "instance": ["instance a : A"]}
+# The lines before a line without a form, by its place, and those after it.
+BEFORE = {
+    "outside": ["cosim 1"],
+    "unit": ["cosim 1", "unit A"],
+    "step": ["cosim 1", "unit A", "step"],
+    "instance": ["cosim 1", "instance a : A"],
+    "step of version 2": ["cosim 2", "unit A", "step"],
+    "header of events": [],
+}
+AFTER = {"header of events": "unit A\nevent input u : Int64\nend\n"}
 
 # The commands that judge the texts of tests/cures.txt.
 JUDGES = {"units": "check", "ports": "check", "groups": "flatten", "saved texts": "resume", "tables": "stimulus"}
@@ -124,8 +132,8 @@ def lines_without_form(trial):
     """Each line of tests/forms.txt, with the line that is like it and the nearest one, which has a form."""
     for row in read("tests/forms.txt").decode().partition("\n\n")[2].splitlines():
         place, line, like, right = row.split(" | ")
-        text = "\n".join(["cosim 1", *BEFORE[place], ""])
-        told = explain(trial, f"{text}{line}\n".encode())[2].decode()
+        text = "".join(f"{before}\n" for before in BEFORE[place])
+        told = explain(trial, f"{text}{line}\n{AFTER.get(place, '')}".encode())[2].decode()
         number = text.count("\n") + 1
         trial.try_that(f"explain {line!r} names its line: {told[:99]}", told.startswith(f"tried:{number}: rule 4: "))
         got = [(re.search(f"^{what}", told, re.M) or ["-", "-"])[1] for what in ("like it: `([^`]*)`", "right: (.*)$")]

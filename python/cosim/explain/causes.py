@@ -1,14 +1,33 @@
-"""What a line does that breaks a rule from 8 to 24: which name, which operand, and which other line."""
-from typing import Callable, Dict, Iterator, List, NamedTuple, Optional, Sequence, Tuple
+"""What a line does that breaks a rule from 1 to 24: which byte, which name, which operand, and which other line."""
+from decimal import Decimal
+from typing import Callable, Dict, Iterable, Iterator, List, NamedTuple, Optional, Sequence, Tuple
 
 from ..grammar import Leaves, Node, Reader
 from ..lines import NUMBER, Placed, Token, split_lines, tokens_of
 from ..nests import Declared, End, Flat, Nest, Origin, TooLarge, Unit, read_nest
-from .kinds import BOOL, CONDITION, FORM_OF_LITERAL, INT, RESULT, Cause, Kinds, Wrong, kind_of_type
+from .foreign import not_ascii
+from .kinds import BOOL, FORM_OF_LITERAL, INT, NO_BOOL, RESULT, Cause, Kinds, Wrong, kind_of_type
+from .positions import range_of
 
 # The cases that docs/RULES.md has a cure of its own for, besides those of kinds.
 PLAIN_TO_EVENT = "a plain output to an event input"
 EVENT_TO_PLAIN = "an event output to a plain input"
+OUTPUT_READ = "an output in an expression"
+LOCAL_READ = "a local outside of a step"
+TIME_IN_OUTPUT = "`t` or `h` in an output"
+STEP_IN_MAX = "`h` in a `max` line"
+CAPITAL_TRUTH = "`True` or `False` in an expression"
+CAPITALS = "a name in other capitals"
+PRESENT_OF_PLAIN = "`present` of what is no event input"
+STATE_SET = "a state in a setting"
+PORT_SET = "a port or a local in a setting"
+EXCHANGED = "exchanged ends of a connection"
+UNIT_BEFORE_PORT = "the name of a unit before a port"
+NO_LENGTH = "`longest` is 0"
+TOO_LATE = "a time above 10^15 ticks"
+
+# The most ticks of a time.
+MOST_TICKS = 10**15
 
 # What an expression may use besides the parameters, states and inputs of its unit.
 USES = {"output": (), "max": ("t",), "step": ("t", "h")}
@@ -39,8 +58,10 @@ class Place(NamedTuple):
 
 def cause_of(text: bytes, line: int, rule: int) -> Cause:
     """What is to be said of a line that breaks a rule, where something can be said."""
-    explain = EXPLAINERS.get(rule)
     lines = split_lines(text)
+    if rule == 1 and 1 <= line <= len(lines):
+        return not_ascii(lines[line - 1])
+    explain = EXPLAINERS.get(rule)
     if not explain or not 1 <= line <= len(lines):
         return Cause()
     nest = read_nest(text)
@@ -87,11 +108,12 @@ def unlike(place: Place) -> Cause:
         return wrong.cause
     first, target = place.texts[0], declared.get(target_of(place))
     if first == "if" and kind != BOOL:
-        return Cause((f"{kinds.quoted(node)} is `{kind}`, and the condition of an `if` is a truth value",), CONDITION)
+        return Cause((f"{kinds.quoted(node)} is `{kind}`, and the condition of an `if` is a truth value",), kinds.case_of_condition(node))
     if first in ("max", "accept") and kind != INT:
         return Cause((f"{kinds.quoted(node)} is `{kind}`, and `{first}` takes whole numbers",), RESULT)
     if target and kind not in (kind_of_type(target.type), None):
-        return Cause((f"{kinds.quoted(node)} is `{kind}`, and `{target.name}` is `{target.type}`",), RESULT)
+        case = NO_BOOL if target.type == BOOL else RESULT
+        return Cause((f"{kinds.quoted(node)} is `{kind}`, and `{target.name}` is `{target.type}`",), case)
     return Cause()
 
 
@@ -140,12 +162,27 @@ def unknown(place: Place) -> Cause:
         for port, sort in ((start, "output"), (end, "input")):
             message = describe_end(place, port, sort)
             if message:
-                return Cause((message,))
+                return Cause((message,), case_of_ends(place, start, end))
     for (end, _), line in place.flat.samples if place.flat else ():
         message = describe_end(place, end, "output") if line == place.line else ""
         if message:
-            return Cause((message,))
+            return Cause((message,), UNIT_BEFORE_PORT if is_unit(place, end) else None)
     return unknown_unit(place)
+
+
+def is_unit(place: Place, end: End) -> bool:
+    """Whether an end has the name of a unit in place of an instance's."""
+    instances = [name for name, _, _ in place.flat.instances] if place.flat else []
+    return end[0] not in instances and place.nest.unit(end[0]) is not None
+
+
+def case_of_ends(place: Place, start: End, end: End) -> Optional[str]:
+    """The case of a connection with an end that isn't there."""
+    if is_unit(place, start) or is_unit(place, end):
+        return UNIT_BEFORE_PORT
+    ports = port_of(place, start), port_of(place, end)
+    sorts = [port.sort.split()[-1] if port else "" for port in ports]
+    return EXCHANGED if sorts == ["input", "output"] else None
 
 
 def describe_end(place: Place, end: End, sort: str) -> str:
@@ -168,13 +205,28 @@ def unknown_unit(place: Place) -> Cause:
         for instance in part.instances:
             if instance.line == place.line:
                 names = ", ".join(f"`{unit.name}`" for unit in place.nest.units)
-                return Cause((f"there is no unit `{instance.unit}`; there are {names}" if names else "the text has no unit",))
+                message = f"there is no unit `{instance.unit}`; there are {names}" if names else "the text has no unit"
+                return Cause((message,), case_of_capitals(instance.unit, place.nest.unit_names))
             unit = place.nest.unit(instance.unit)
             for name, line in instance.settings:
                 if line == place.line and unit:
                     parameters = ", ".join(f"`{declared.name}`" for declared in unit.declared.values() if declared.sort == "param")
-                    return Cause((f"`{unit.name}` has no parameter `{name}`" + (f"; it has {parameters}" if parameters else ""),))
+                    message = f"`{unit.name}` has no parameter `{name}`" + (f"; it has {parameters}" if parameters else "")
+                    return Cause((message,), case_of_setting(unit, name))
     return Cause()
+
+
+def case_of_setting(unit: Unit, name: str) -> Optional[str]:
+    """The case of a setting that isn't of a parameter."""
+    declared = unit.declared.get(name)
+    if declared:
+        return STATE_SET if declared.sort == "state" else PORT_SET
+    return case_of_capitals(name, [other.name for other in unit.declared.values() if other.sort == "param"])
+
+
+def case_of_capitals(name: str, others: Iterable[str]) -> Optional[str]:
+    """The case of a name that is there in other capitals."""
+    return CAPITALS if name.lower() in [other.lower() for other in others] else None
 
 
 def unknown_in_unit(place: Place, unit: Unit) -> Cause:
@@ -182,15 +234,27 @@ def unknown_in_unit(place: Place, unit: Unit) -> Cause:
     if "needs" in texts:
         for need in texts[texts.index("needs") + 1 : texts.index("=")]:
             if need != "," and need not in unit.ports("input"):
-                return Cause((f"`{need}`, which the output needs, is no input of `{unit.name}`",))
+                return Cause((f"`{need}`, which the output needs, is no input of `{unit.name}`",), case_of_capitals(need, unit.ports("input")))
     if texts[1:2] == [":="] and texts[0] not in unit.declared:
-        return Cause((f"`{texts[0]}`, which is assigned, isn't declared in `{unit.name}`",))
+        return Cause((f"`{texts[0]}`, which is assigned, isn't declared in `{unit.name}`",), case_of_capitals(texts[0], unit.declared))
     node = expression_of(place)
     for name in names_in(node, place.tokens) if node else ():
         message = describe_use(place, unit, name)
         if message:
-            return Cause((message,))
+            return Cause((message,), case_of_use(place, unit, name))
     return Cause()
+
+
+def case_of_use(place: Place, unit: Unit, name: str) -> Optional[str]:
+    """The case of a name that an expression may not use."""
+    if name in ("t", "h"):
+        return STEP_IN_MAX if place.sort == "max" else TIME_IN_OUTPUT
+    declared = unit.declared.get(name)
+    if declared is None:
+        return CAPITAL_TRUTH if name.lower() in ("true", "false") else case_of_capitals(name, unit.declared)
+    if declared.sort.endswith("output"):
+        return OUTPUT_READ
+    return LOCAL_READ if declared.sort == "local" and place.sort != "step" else PRESENT_OF_PLAIN
 
 
 def describe_use(place: Place, unit: Unit, name: str) -> str:
@@ -328,5 +392,36 @@ def assigned(place: Place) -> Cause:
     return Cause((f"`{declared.name}` is declared by `{declared.sort}` at line {declared.line}",)) if declared else Cause()
 
 
+def out_of_range(place: Place) -> Cause:
+    """Rule 11: the range of the type."""
+    declared = declared_at(place)
+    if not declared or "=" not in place.texts:
+        return Cause()
+    literal = "".join(place.texts[place.texts.index("=") + 1 :])
+    low, high = range_of(declared.type)
+    words = f"the words of `{declared.type}` are {low} to {high}"
+    return Cause((f"{words}, and `{literal}` has another one",))
+
+
+def no_ticks(place: Place) -> Cause:
+    """Rule 20: the length of a tick, and the time."""
+    if place.texts[:1] not in (["stop"], ["longest"]) or len(place.texts) != 2:
+        return Cause()
+    time, exponent = Decimal(place.texts[1]), finest_resolution(place)
+    tick = f"a tick is {Decimal(1).scaleb(-exponent):f} seconds" if exponent else "a tick is a second"
+    if not time:
+        return Cause(("the longest step has a length above 0",), NO_LENGTH)
+    if time.scaleb(exponent) > MOST_TICKS:
+        return Cause((f"{tick}, and a time has at most 10^15 ticks",), TOO_LATE)
+    return Cause((f"{tick}, and `{place.texts[1]}` is no whole number of ticks",))
+
+
+def finest_resolution(place: Place) -> int:
+    """The greatest resolution of the units that have an instance."""
+    units = {unit.name: unit for _, instance, _ in (place.flat.instances if place.flat else ()) for unit in [place.nest.unit(instance.unit)] if unit}
+    lines = [placed.tokens for unit in units.values() for placed in unit.lines]
+    return max((int(tokens[1]) for tokens in lines if tokens[:1] == ["resolution"] and len(tokens) == 2), default=0)
+
+
 EXPLAINERS: Dict[int, Callable[[Place], Cause]] = {8: twice, 9: unknown, 10: unlike, 12: lacking, 13: connected_before}
-EXPLAINERS.update({14: unequal, 15: cycle, 22: assigned})
+EXPLAINERS.update({11: out_of_range, 14: unequal, 15: cycle, 20: no_ticks, 22: assigned})

@@ -6,8 +6,8 @@ from typing import Iterator, List, NamedTuple, Optional, Sequence, Tuple
 
 from ..documents import RULES, Row, section, tables, without_links
 from ..formatting import space
-from ..grammar import END, EXPRESSION, LITERAL, NAME, TYPE, Fault, Form, fault_at, forms_at
-from ..lines import IN_INSTANCE, NUMBER, PLACES, WORD, Placed, Token, tokens_of
+from ..grammar import END, EXPRESSION, LITERAL, NAME, NUMBER_OF_SECONDS, RANKS, TYPE, Fault, Form, fault_at, forms_at
+from ..lines import IN_INSTANCE, IN_STEP, IN_UNIT, LARGEST, NUMBER, PLACES, WORD, Placed, Token, tokens_of
 from ..repository import reserved_words, type_words
 
 # How many tokens of a line are changed at most where the nearest right line is looked for.
@@ -25,6 +25,17 @@ SIGNS = ("", ":", "=", ":=", "->", ".", ",", "(", ")")
 # What is often written in place of a sign of a form, and what is often written besides.
 MISTAKEN = ("=", ":=", "==", "=>", "->", "<-", "-->", ":", "::", ",")
 NEEDLESS = (":", ";", "{", "}", "+", ")")
+
+# Numbers as other languages write them: with an exponent, in another base, or with `_` between digits.
+OTHER_NUMBER = re.compile(r"[0-9.]+[eE][0-9]*|0[xXbBoO][0-9A-Fa-f]+|[0-9][0-9_.]*")
+
+# Words that are types in other languages, by which a call is meant to convert.
+OTHER_TYPES = ("int", "integer", "double", "float", "real", "single", "decimal", "number", "bool", "boolean", "str", "string")
+
+# What the first column of a row of rule 4 says where its lines alone don't say why they have no form.
+CONTINUED = "and the rest in the next line"
+IN_VERSION_1 = "in version 1"
+TOO_DEEP = "more than 64 levels"
 
 # The letters of forms that stand for something, and what they stand for.
 LETTERS = {"T": "a type", "L": "a literal", "e": "an expression", "S": "a number of seconds", "E": "0 to 9"}
@@ -80,6 +91,8 @@ def describe_fault(tokens: Sequence[Token], fault: Fault, place: str) -> str:
     if fault.place == len(tokens):
         return f"{expected} is missing at the end of the line"
     found = tokens[fault.place].text
+    if set(fault.expected) & {LITERAL, EXPRESSION, NUMBER_OF_SECONDS} and NUMBER.fullmatch(found):
+        return f"`{found}` is too large: the digits of a number, without its point, are at most {LARGEST}"
     if not fault.place:
         return f"no line begins with `{found}` {place}"
     if fault.expected == (NAME,) and found in reserved_words():
@@ -95,13 +108,25 @@ def examples(version: int) -> Tuple[Example, ...]:
     found: List[Example] = []
     for table in tables(section(RULES, "Rule 4:")):
         for row in table:
-            for line in re.findall(r"`([^`]*)`", row.get("line", "")):
+            for line in lines_of(row):
                 tokens = tokens_of(line.encode())
                 for place in places_of(tokens, row["right"]):
                     fault = fault_at(tokens, place, version)
                     if fault:
                         found.append(Example(row, place, tuple(tokens), fault))
     return tuple(found)
+
+
+def lines_of(row: Row) -> List[str]:
+    """The lines without a form that a row has. A row that describes them has none."""
+    cell = row.get("line", "")
+    return re.findall(r"`([^`]*)`", cell) if cell.startswith("`") else []
+
+
+def row_that_says(words: str) -> Optional[Row]:
+    """The row of rule 4 whose first column has such words."""
+    found = (row for table in tables(section(RULES, "Rule 4:")) for row in table if words in row.get("line", ""))
+    return next(found, None)
 
 
 def places_of(line: Sequence[Token], right: str) -> Tuple[str, ...]:
@@ -126,11 +151,17 @@ def kind_of(token: str) -> str:
     """What a token is alike to: names are, numbers are, and words and signs of the language are themselves alone."""
     if token in reserved_words() or not token:
         return token
+    if token.lower() in ("true", "false"):
+        return "truth value in capitals"
     if WORD.fullmatch(token):
         return "name"
     if NUMBER.fullmatch(token):
         return "number"
-    return "misspelt number" if token[0].isdigit() else token
+    if not token[0].isdigit():
+        return token
+    if token.endswith("trace"):
+        return "number before `trace`"
+    return "number of another language" if OTHER_NUMBER.fullmatch(token) else "number with a word"
 
 
 def found_at(tokens: Sequence[Token], fault: Fault) -> str:
@@ -152,9 +183,12 @@ def is_alike(tokens: Sequence[Token], fault: Fault, example: Example) -> bool:
     kind = kind_of(found)
     if kind != kind_of(other):
         return False
-    if kind in ("name", "number", "misspelt number"):
+    if kind in ("name", *KINDS_OF_NUMBERS):
         return before(tokens, fault) == before(example.tokens, example.fault)
     return kind_of(tokens[0].text) == kind_of(example.tokens[0].text)
+
+
+KINDS_OF_NUMBERS = ("number", "number before `trace`", "number of another language", "number with a word")
 
 
 def is_telling_token(token: str) -> bool:
@@ -174,7 +208,7 @@ def likeness(tokens: Sequence[Token], fault: Fault, example: Example) -> float:
     if not is_telling and not (is_expected and is_alike(tokens, fault, example)):
         return 0
     nearness = nearness_of_words(tokens, fault, example)
-    if nearness < LEAST_LIKENESS and kind_of(found) != "misspelt number":
+    if nearness < LEAST_LIKENESS:
         return 0
     shape, other_shape = ([kind_of(token.text) for token in line] for line in (tokens, example.tokens))
     same_beginning = tokens[0].text == example.tokens[0].text
@@ -183,15 +217,23 @@ def likeness(tokens: Sequence[Token], fault: Fault, example: Example) -> float:
 
 
 def nearness_of_words(tokens: Sequence[Token], fault: Fault, example: Example) -> float:
-    """How much the words are alike by which two lines leave their forms: the first ones where these begin no form."""
-    found, first = tokens[fault.place].text if fault.place < len(tokens) else "", tokens[0].text
+    """How much the words are alike by which two lines leave their forms: the first ones where these begin no form.
+
+    Words of the language may be misspelt, and types may be those of another language. All other names are alike.
+    """
+    found, first = found_at(tokens, fault), tokens[0].text
     if not fault.place and kind_of(found) == "name":
         return likeness_of_beginnings(tokens, example.tokens)
-    if fault.place == 1 and kind_of(first) == "name" and found not in SIGNS:
+    if fault.place == 1 and kind_of(first) == "name" and (kind_of(found) == "name" or WORD.fullmatch(found)):
         return alike(first, example.tokens[0].text)
-    if kind_of(found) in ("name", "misspelt number"):
-        return alike(found, found_at(example.tokens, example.fault))
-    return 1
+    if found == "(" and fault.place:
+        return float(is_type_word(tokens[fault.place - 1].text) == is_type_word(example.tokens[example.fault.place - 1].text))
+    return alike(found, found_at(example.tokens, example.fault)) if TYPE in fault.expected and kind_of(found) == "name" else 1
+
+
+def is_type_word(word: str) -> bool:
+    """Whether a word is a type, here or in another language, in any capitals."""
+    return word.lower() in (*OTHER_TYPES, *(name.lower() for name in type_words()))
 
 
 def likeness_of_beginnings(tokens: Sequence[Token], others: Sequence[Token]) -> float:
@@ -210,8 +252,15 @@ def alike(one: str, other: str) -> float:
 def like(tokens: Sequence[Token], placed: Placed, version: int, fault: Fault) -> Optional[Row]:
     """The row of rule 4 whose line is most like this one.
 
-    It is of the same place, or of another one if the token by which both lines leave their forms says enough.
+    It is of the same place, or of another one if the token by which both lines leave their forms says enough. A line that goes
+    on further in version 2 is compared in that version.
     """
+    described = described_row(tokens, placed, version, fault)
+    if described:
+        return described
+    newer = fault_at(tokens, placed.place, 2)
+    if version == 1 and newer and newer.place > fault.place:
+        version, fault = 2, newer
     others = PLACES[:-1] if fault.place and is_telling_token(found_at(tokens, fault)) else ()
     for places in ((placed.place,), others):
         scored = [(likeness(tokens, fault, example), example.row) for example in examples(version) if example.place in places]
@@ -219,6 +268,16 @@ def like(tokens: Sequence[Token], placed: Placed, version: int, fault: Fault) ->
         if score:
             return row
     return None
+
+
+def described_row(tokens: Sequence[Token], placed: Placed, version: int, fault: Fault) -> Optional[Row]:
+    """The row that describes a line in words: one of a form of version 2, one that goes on a line, or one that is too deep."""
+    if version == 1 and fault_at(tokens, placed.place, 2) is None:
+        return row_that_says(IN_VERSION_1)
+    if "an expression of fewer parts within each other" in fault.expected:
+        return row_that_says(TOO_DEEP)
+    is_continued = not fault.place and tokens[0].text in (*RANKS, "then", ")") and placed.place in (IN_STEP, IN_UNIT)
+    return row_that_says(CONTINUED) if is_continued else None
 
 
 def describe_row(row: Row) -> str:
@@ -234,9 +293,21 @@ def nearest(tokens: Sequence[Token], place: str, version: int) -> Optional[str]:
     for _ in range(MOST_CHANGES):
         reached = [other for line in reached for other in changes(line, place, version)]
         for line in reached:
-            if fault_at(placed_tokens(line), place, version) is None:
+            if fault_at(placed_tokens(line), place, version) is None and has_literal_of_type(line):
                 return space(line)
     return None
+
+
+def has_literal_of_type(line: Sequence[str]) -> bool:
+    """Whether the literal of a line that declares has the form of its type; true of all other lines."""
+    if line[0] not in ("param", "state", "input") or "=" not in line:
+        return True
+    type_name, *decimals = line[line.index(":") + 1 : line.index("=")]
+    literal = line[-1]
+    if type_name == "Bool" or literal in ("true", "false"):
+        return type_name == "Bool" and literal in ("true", "false")
+    found = NUMBER.fullmatch(literal)
+    return found is not None and len(found[2] or "") <= int("".join(decimals) or 0)
 
 
 def joined(tokens: Sequence[Token]) -> List[str]:
@@ -263,10 +334,14 @@ def changes(line: List[str], place: str, version: int) -> Iterator[List[str]]:
     at, found = fault.place, line[fault.place] if fault.place < len(line) else ""
     front, rest = line[:at], line[at + 1 :]
     if at == 0:
-        begun = [form.parts[0] for form in forms_at(place, version) if len(form.parts[0]) > 1]
+        is_misspelt = found not in reserved_words()
+        begun = [form.parts[0] for form in forms_at(place, version) if len(form.parts[0]) > 1 and is_misspelt]
         yield from ([word, *rest] for word in difflib.get_close_matches(found.lower(), begun, 1))
         if place == IN_INSTANCE:
             yield rest
+        return
+    if found == "<-" and line[0] == "connect":
+        yield ["connect", *rest, "->", *front[1:]]
         return
     for text in stand_ins(front, found, fault):
         if found in MISTAKEN or text.lower() == found.lower():

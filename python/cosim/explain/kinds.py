@@ -8,6 +8,9 @@ from ..nests import Declared
 
 # The cases of rule 10 that docs/RULES.md has a cure of its own for.
 ABSENT = "`absent` where a word is expected"
+COMPARED = "a comparison with `absent`"
+IN_OPERAND = "`absent` in an operand of an event output"
+EVENT = "an event input as a condition"
 CONDITION = "a condition that is no truth value"
 KINDS = "numbers of different kinds"
 WHOLE_DIVISION = "`/` of whole numbers"
@@ -15,6 +18,7 @@ FIXED_DIVISION = "`div` or `mod` of numbers with decimals"
 TRUTH = "a truth value where a number is expected"
 NO_TRUTH = "a number where a truth value is expected"
 RESULT = "a result of another kind than its target"
+NO_BOOL = "a number for a `Bool`"
 FORM_OF_LITERAL = "a literal of another form than its type"
 
 BOOL, INT = "Bool", "Int"
@@ -62,7 +66,9 @@ class Kinds:
             return None
         if node.text == "if":
             return self.choice(node, may_be_absent)
-        kinds = [self.kind(part) or INT for part in node.parts]
+        if node.text in ("==", "!=") and "absent" in [part.text for part in node.parts]:
+            raise Wrong("`absent` is no word, and can't be compared", COMPARED)
+        kinds = [self.kind_of_operand(part, may_be_absent) for part in node.parts]
         if node.text in ("and", "or", "not"):
             self.each_is(node, kinds, BOOL)
             return BOOL
@@ -78,6 +84,15 @@ class Kinds:
                 raise Wrong(f"{self.quoted(part)} is a truth value, and `{node.text.split()[0]}` takes numbers", TRUTH)
         self.alike(node, kinds)
         return self.result(node, kinds)
+
+    def kind_of_operand(self, node: Node, is_event: bool) -> str:
+        """The kind of an operand, which is never absent; in an event output the whole expression may be."""
+        try:
+            return self.kind(node) or INT
+        except Wrong as wrong:
+            if is_event and wrong.cause.case == ABSENT:
+                raise Wrong("`absent` is in an operand, and an operand is a word", IN_OPERAND) from wrong
+            raise
 
     def leaf(self, text: str) -> str:
         if text in ("true", "false", "present"):
@@ -106,7 +121,12 @@ class Kinds:
     def is_truth(self, condition: Node) -> None:
         kind = self.kind(condition)
         if kind != BOOL:
-            raise Wrong(f"{self.quoted(condition)} is `{kind}`, and the condition of an `if` is a truth value", CONDITION)
+            raise Wrong(f"{self.quoted(condition)} is `{kind}`, and the condition of an `if` is a truth value", self.case_of_condition(condition))
+
+    def case_of_condition(self, condition: Node) -> str:
+        """The case of a condition that is no truth value."""
+        declared = self.declared.get(condition.text)
+        return EVENT if declared and declared.is_event else CONDITION
 
     def each_is(self, node: Node, kinds: Sequence[str], wanted: str) -> None:
         for part, kind in zip(node.parts, kinds):

@@ -5,7 +5,7 @@ from ..documents import RULES, read_titles, without_links
 from ..grammar import fault_at
 from ..lines import IN_GROUP, Placed, placed_lines, split_lines, texts_of, tokens_of
 from ..streams import escaped
-from . import cases, causes, forms, nested, positions
+from . import cases, causes, forms, misplaced, nested, positions
 from .inputs import SAVED, has_groups
 
 # How much of a line is shown, and of what is said of it, in characters.
@@ -52,6 +52,11 @@ def advice(text: bytes, line: int, rule: int) -> Advice:
     cause = causes.cause_of(without_position(text), found, rule)
     case = cause.case
     details = [f"here: {words}" for words in (*described, *cause.details)]
+    if rule == 5:
+        placed = placed_at(text, found)
+        cause = misplaced.misplaced(split_lines(text), placed) if placed else cause
+        case = cause.case
+        details = [f"here: {words}" for words in cause.details]
     if rule in WITHOUT_FORM or rule == 7:
         lines = split_lines(text)
         placed = placed_at(text, found)
@@ -86,9 +91,14 @@ def placed_at(text: bytes, line: int) -> Optional[Placed]:
 
 
 def version_of(lines: List[bytes]) -> int:
-    """The version of a text, by the first line that begins as a header."""
-    header: List[str] = next((tokens for tokens in map(texts_of, lines) if tokens[:1] == ["cosim"]), [])
-    return 2 if len(header) == 2 and header[1].lstrip("0") == "2" else 1
+    """The version of a text, by the first line that begins as a header, in any capitals; and where that has no such version, by
+    whether the text has event ports."""
+    texts = [texts_of(line) for line in lines]
+    header: List[str] = next((tokens for tokens in texts if "".join(tokens[:1]).lower() == "cosim"), [])
+    version = header[1].partition(".")[0].lstrip("0") if len(header) > 1 else ""
+    if version in ("1", "2"):
+        return int(version)
+    return 2 if any(tokens[:1] == ["event"] for tokens in texts) else 1
 
 
 def details_of_form(lines: List[bytes], placed: Placed, rule: int, case: Optional[str]) -> List[str]:
@@ -99,9 +109,10 @@ def details_of_form(lines: List[bytes], placed: Placed, rule: int, case: Optiona
     fault = fault_at(tokens, placed.place, version)
     if fault is None:
         return []
-    details = [f"here: {forms.describe_fault(tokens, fault, placed.place)}", f"form: {forms.form_for(placed, version)}"]
     row = forms.like(tokens, placed, version, fault) if placed.place != IN_GROUP else None
     right = forms.nearest(tokens, placed.place, version)
+    meant = placed._replace(tokens=texts_of(right.encode("latin-1"))) if right else placed
+    details = [f"here: {forms.describe_fault(tokens, fault, placed.place)}", f"form: {forms.form_for(meant, version)}"]
     return details + ([f"like it: {forms.describe_row(row)}"] if row else []) + ([f"right: {right}"] if right else [])
 
 
