@@ -29,6 +29,8 @@ SAVED = b"saved 1\nrow 0\nat 0 0\nstate a 0\n" + MODEL
 
 NO_TRACE = b"no model: append it to a model and a line `trace`, and ask ./cosim verify\n"
 
+PARTED = b"verify reads a text without groups, so append that line and the table to what ./cosim flatten prints\n"
+
 # Files that are accepted, or that no command judges: with the status, what is noted, and what is printed; `{}` is the name.
 ACCEPTED = {
     "model": (MODEL, 0, b"", b"{}: accepted\n"),
@@ -37,6 +39,10 @@ ACCEPTED = {
     "saved": (SAVED, 0, b"", b"{}: accepted by resume; run it by ./cosim resume < {}\n"),
     "saved by DOS": (SAVED.replace(b"\n", b"\r\n"), 0, b"", b"{}: accepted by resume; run it by ./cosim resume < '{}'\n"),
     "table": (b"time,v\n0,5\n2,-1\n", 0, b"", b"{}: accepted by stimulus; make a model of it by ./cosim stimulus < {}\n"),
+    "marked table": (b"\xef\xbb\xbf\r\n\ntime,v\n0,5\n", 0, b"", b"{}: accepted by stimulus; make a model of it by ./cosim stimulus < '{}'\n"),
+    "indices": (b"time,index,v\n0,5,6\n", 0, b"", b"{}: accepted by stimulus; make a model of it by ./cosim stimulus < {}\n"),
+    "parted nested": (NESTED + b"trace\ntime,index\n", 0, b"", b"{}: accepted by flatten, up to the line 'trace'; " + PARTED),
+    "marked": (b'\xef\xbb\xbf"time","index","a.y"\n0,0,0\n', 2, b"{}: the table of a trace, which is " + NO_TRACE, b""),
     "trace": (b"time,index,a.y\n0,0,0\n", 2, b"{}: the table of a trace, which is " + NO_TRACE, b""),
 }
 
@@ -47,7 +53,12 @@ REFUSED = {
     "front": (b"cosim 1\nunit\n trace # of\n", 2, 4, b"unit\n"),
     "saved behind": (SAVED.replace(b"= n", b"= m"), 8, 9, b"  output y : Int64 = m\n"),
     "saved before": (SAVED.replace(b"at 0 0", b"at 0"), 3, 32, b"at 0\n"),
-    "lines of a table": (b"\ntime,v\n", 2, 4, b"time,v\n"),
+    "lines of a table": (b"\ntime,v\n", 2, 36, b"time,v\n"),
+    "semicolons": (b"time;v\n0;5\n", 1, 36, b"time;v\n"),
+    "capitals of a table": (b"Time,v\n0,5\n", 1, 36, b"Time,v\n"),
+    "spaces of a table": (b"time ,v\n0,5\n", 1, 36, b"time ,v\n"),
+    "saved of version 2": (SAVED.replace(b"saved 1", b"saved 2"), 1, 32, b"saved 2\n"),
+    "saved with a space": (SAVED.replace(b"saved 1", b"saved 1 "), 1, 32, b"saved 1\n"),
     "records": (b'time,v\n\n0,"5"\n\n0,6\n', 5, 36, b"0,6\n"),
     "empty": (b"", 1, 7, b""),
     "long": (b"#" * (1 << 20), 1, 2, b"#" * 200 + b" ..\n"),
@@ -56,6 +67,27 @@ REFUSED = {
     "kinds of a sum": (MODEL.replace(b"= n", SUM + b"+1.0"), 4, 10, b"  output y : Int64 = n+n"),
     "names of a sum": (MODEL.replace(b"= n", SUM + b"+m"), 4, 9, b"  output y : Int64 = n+n"),
 }
+
+# Texts that are refused, with what is said of the cause.
+STEP = b"  step\n    repeat 1000\n      repeat 500\n        n := n + 1\n      end\n    end\n  end\nend\ninstance"
+LETTER = "the character is U+00E9, latin small letter e with acute"
+DIGITS = f"the digits of a number, without its point, are at most {2**63 - 1}"
+REASONS = (
+    (MODEL.replace(b"state n", "state é".encode()), "byte 9 of the line is C3 in hexadecimal; " + LETTER),
+    (MODEL.replace(b"state n", b"state \xf1"), "byte 9 of the line is F1 in hexadecimal"),
+    (b"\xef\xbb\xbf" + MODEL, "the line begins with the byte-order mark of UTF-8, which is EF BB BF"),
+    (MODEL.decode().encode("utf-16"), "the line begins with the byte-order mark of UTF-16, which is FF FE"),
+    (MODEL.decode().encode("utf-16-le"), "byte 2 of the line is 00 in hexadecimal, as in a text in UTF-16"),
+    (MODEL.replace(b"Int64 = 0", b"Int8 = 300"), "the words of `Int8` are -128 to 127, and `300` has another one"),
+    (MODEL.replace(b"end\ninstance", STEP), "line 8 is repeated 500,000 times in a step"),
+    (MODEL.replace(b"stop 3", b"stop 0.5"), "a tick is a second, and `0.5` is no whole number of ticks"),
+    (MODEL + b"longest 0\n", "the longest step has a length above 0"),
+    (MODEL + b"stop 4\n", "line 8 is a `stop` line too"),
+    (MODEL.replace(b"= n", b"= 99999999999999999999"), "`99999999999999999999` is too large: " + DIGITS),
+    (SAVED.replace(b"row 0", b"row 00"), "`00` is no whole number from 0 to 10^15, or isn't written in the shortest way"),
+    (SAVED.replace(b"at 0 0", b"at 0"), "the form is `at T I`, and here are 2 words"),
+    (SAVED.replace(b"saved 1", b"saved 2"), "the line is `saved 1`, and not `saved 2`"),
+)
 
 # Notes, with the kind and the number of the page that is printed.
 NOTES = {
@@ -109,6 +141,7 @@ def cases_of_rules():
 
 
 def mistakes(trial):
+    """Each text of examples/mistakes, with its line, its rule and its cure."""
     titles = dict(re.findall(r"^\| \[(\d+)\]\([^)]*\) \| (.*?) \|", read("docs/RULES.md").decode(), re.M))
     for name, answer, _ in read_mistakes():
         path = f"examples/mistakes/{name}.cosim"
@@ -176,7 +209,14 @@ def cures_of_cases(trial):
     trial.try_that(f"tests/cures.txt lacks cases: {set(cures) - seen}", set(cures) == seen)
 
 
-def files(trial):
+def reasons(trial):
+    """What is said of the cause, of texts that break rules by one word or one byte."""
+    for text, wanted in REASONS:
+        told = explain(trial, text)[2].decode()
+        trial.try_that(f"explain says {wanted!r}: {told}", f"\nhere: {wanted}\n" in told)
+
+
+def explained_files(trial):
     """Files of all kinds, and names that could forge a line or do something to a terminal."""
     for name, (text, *wanted) in ACCEPTED.items():
         status, *written = (part if isinstance(part, int) else part.replace(b"{}", name.encode()) for part in wanted)
@@ -197,6 +237,7 @@ def files(trial):
 
 
 def pages(trial):
+    """The page of each rule, status and fault."""
     for number in (*range(1, 25), *range(26, 38)):
         status, notes, output = trial.ask(["./explain", str(number)])
         trial.tally.compare(f"explain rule {number}", trial.ask(["./explain", "rule", str(number)]), (0, b"", output))
@@ -220,6 +261,7 @@ def pages(trial):
 
 
 def notes_of_program(trial):
+    """Notes of the program, with the page that each is explained by."""
     for note, (kind, number) in NOTES.items():
         wanted = trial.ask(["./explain", kind, str(number)])
         trial.tally.compare(f"explain {note!r}", trial.ask(["./explain", note]), (0, b"", wanted[2]))
@@ -233,6 +275,7 @@ def notes_of_program(trial):
 
 
 def words_without_form(trial):
+    """Words without a form, files that can't be read, and a program that isn't there."""
     form = trial.ask(["./explain", "--help"])[2]
     for words in ([], ["rule"], ["rule", "x"], ["law", "3"], ["--rule"], ["a", "b", "c"]):
         trial.tally.compare(f"explain {words}", trial.ask(["./explain", *words]), (2, form, b""))
@@ -243,7 +286,7 @@ def words_without_form(trial):
     trial.tally.compare("explain, no program", got, (69, b"/nowhere: No such file or directory\n", b""))
 
 
-def environments(trial):
+def explained_elsewhere(trial):
     """A link to the script, closed streams, and a locale of ASCII alone."""
     link = os.path.join(trial.work, "links", "explain")
     os.symlink(os.path.join(trial.clone, "explain"), link)
@@ -265,5 +308,5 @@ def environments(trial):
     trial.try_that(f"calls leave {left}", not [path for path in left if os.sep + ".ci" not in path])
 
 
-CHECKS = (mistakes, lines_without_form, guilty_lines, cures_of_cases, files, pages, notes_of_program)
-CHECKS += (words_without_form, environments)
+CHECKS = (mistakes, lines_without_form, guilty_lines, cures_of_cases, reasons, explained_files, pages, notes_of_program)
+CHECKS += (words_without_form, explained_elsewhere)

@@ -1,4 +1,5 @@
 """What a line does that breaks a rule from 1 to 24: which byte, which name, which operand, and which other line."""
+import math
 from decimal import Decimal
 from typing import Callable, Dict, Iterable, Iterator, List, NamedTuple, Optional, Sequence, Tuple
 
@@ -403,6 +404,25 @@ def out_of_range(place: Place) -> Cause:
     return Cause((f"{words}, and `{literal}` has another one",))
 
 
+def costly(place: Place) -> Cause:
+    """Rule 18: the line of a step that is repeated most."""
+    if place.unit is None or place.sort != "step":
+        return Cause()
+    counts: List[int] = []
+    most, most_line = 1, 0
+    for placed in place.unit.lines:
+        if "step" not in placed.blocks:
+            continue
+        first = placed.tokens[0]
+        if first in ("if", "repeat"):
+            counts.append(int(placed.tokens[1]) if first == "repeat" else 1)
+        elif first == "end" and counts:
+            counts.pop()
+        elif math.prod(counts) > most:
+            most, most_line = math.prod(counts), placed.number
+    return Cause((f"line {most_line} is repeated {most:,} times in a step",)) if most_line else Cause()
+
+
 def no_ticks(place: Place) -> Cause:
     """Rule 20: the length of a tick, and the time."""
     if place.texts[:1] not in (["stop"], ["longest"]) or len(place.texts) != 2:
@@ -424,4 +444,4 @@ def finest_resolution(place: Place) -> int:
 
 
 EXPLAINERS: Dict[int, Callable[[Place], Cause]] = {8: twice, 9: unknown, 10: unlike, 12: lacking, 13: connected_before}
-EXPLAINERS.update({11: out_of_range, 14: unequal, 15: cycle, 20: no_ticks, 22: assigned})
+EXPLAINERS.update({11: out_of_range, 14: unequal, 15: cycle, 18: costly, 20: no_ticks, 22: assigned})

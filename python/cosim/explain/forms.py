@@ -102,6 +102,16 @@ def describe_fault(tokens: Sequence[Token], fault: Fault, place: str) -> str:
     return f"{expected} is expected in place of `{found}`"
 
 
+def describe_group(tokens: Sequence[Token]) -> str:
+    """What is expected where a line `group` leaves its form."""
+    if len(tokens) == 1:
+        return f"{NAME} is missing at the end of the line"
+    name, *others = tokens[1:]
+    if name.text in reserved_words():
+        return f"`{name.text}` is a reserved word, and can't be a name"
+    return f"`{others[0].text}` can't follow `{name.text}`" if others and name.is_word else f"{NAME} is expected in place of `{name.text}`"
+
+
 @functools.lru_cache(maxsize=None)
 def examples(version: int) -> Tuple[Example, ...]:
     """The lines of the tables of rule 4, each in the places where such a line may be meant."""

@@ -123,10 +123,10 @@ def missing(nest: Nest, part: Part) -> Iterator[Guilty]:
     names: Set[str] = set()
     for link in part.ins:
         if not has_port(nest, part, link.end, "input"):
-            yield Guilty(link.line, (describe_missing(nest, part, link.end, "input"),))
+            yield guilty_of_end(nest, part, link.line, link.end, "input")
     for link in part.outs:
         if not has_port(nest, part, link.start, "output"):
-            yield Guilty(link.line, (describe_missing(nest, part, link.start, "output"),))
+            yield guilty_of_end(nest, part, link.line, link.start, "output")
         if link.end[1] in names:
             yield Guilty(link.line, (f"another `out` line has the name `{link.end[1]}`",))
         names.add(link.end[1])
@@ -142,8 +142,16 @@ def missing_ends(nest: Nest, part: Part, link: Link) -> Iterator[Guilty]:
     for end, sort in ((link.start, "output"), (link.end, "input")):
         instance = part.instance(end[0])
         if instance and nest.group(instance.unit) and not has_port(nest, part, end, sort):
-            yield Guilty(link.line, (describe_missing(nest, part, end, sort),))
+            yield guilty_of_end(nest, part, link.line, end, sort)
             return
+
+
+def guilty_of_end(nest: Nest, part: Part, line: int, end: End, sort: str) -> Guilty:
+    """The line that names a port which isn't there, or the instance of it where that is of no group and no unit."""
+    instance = part.instance(end[0])
+    if instance and not nest.group(instance.unit) and not nest.unit(instance.unit):
+        return Guilty(instance.line, (f"`{instance.unit}` is neither a group nor a unit; line {line} uses a port of `{instance.name}`",))
+    return Guilty(line, (describe_missing(nest, part, end, sort),))
 
 
 def ports_of(nest: Nest, instance: Instance, sort: str) -> Sequence[str]:
@@ -163,7 +171,5 @@ def describe_missing(nest: Nest, part: Part, end: End, sort: str) -> str:
     instance = part.instance(end[0])
     if instance is None:
         return f"there is no instance `{end[0]}` here"
-    if not nest.group(instance.unit) and not nest.unit(instance.unit):
-        return f"`{instance.unit}`, which the instance `{end[0]}` is of, is neither a group nor a unit"
     ports = ", ".join(f"`{name}`" for name in dict.fromkeys(ports_of(nest, instance, sort)))
     return f"`{instance.unit}` has no {sort} `{end[1]}`; its {sort}s are {ports}" if ports else f"`{instance.unit}` has no {sort}s"

@@ -1,4 +1,4 @@
-"""Rules 33 and 36: why the position of a saved text doesn't fit its system, and what is wrong with a record of a table."""
+"""Rules 32, 33 and 36: what is wrong with the position of a saved text, and with a record of a table."""
 import csv
 import io
 import re
@@ -12,6 +12,12 @@ from ..program import ACCEPTED, ask
 from ..repository import reserved_words
 
 # The cases that docs/RULES.md has a cure of its own for.
+MISSING = "a missing line of a position"
+FIRST_LINE = "another first line of a position"
+SPACES = "spaces or a comment in a position"
+NUMBERS = "a number of a position in another form"
+COUNT_OF_WORDS = "another number of words in a position"
+
 NAMES = "other instances, or another order"
 COUNTS = "another number of states"
 WORDS = "a word out of its type's range"
@@ -36,6 +42,11 @@ LATEST = 10**9
 LARGEST = 10**15
 WHOLE = re.compile(r"-?(0|[1-9][0-9]{0,17})")
 
+# The first lines of a position, and the fourth and later ones, whose words are those of states.
+FORMS = ("saved 1", "row N", "at T I")
+FORM_OF_STATE = "state A W .."
+LONGEST_WORD = 2**63
+
 
 class Reason(NamedTuple):
     """A line of the input, from 1, what is wrong there, and the case of its cure."""
@@ -51,6 +62,38 @@ def range_of(type_name: str) -> Tuple[int, int]:
         return 0, 1
     bits = int("".join(filter(str.isdigit, type_name))) if "Int" in type_name else 64
     return (0, 2**bits - 1) if type_name.startswith("U") else (-(2 ** (bits - 1)), 2 ** (bits - 1) - 1)
+
+
+def untold_position(text: bytes, number: int) -> Optional[Reason]:
+    """Which word of a line breaks rule 32."""
+    lines = [line.rstrip("\r") for line in text.decode("latin-1").split("\n")]
+    form = FORMS[number - 1] if number <= len(FORMS) else FORM_OF_STATE
+    line = lines[number - 1] if number <= len(lines) else ""
+    first = form.split(" ")[0]
+    if line.split()[:1] != [first]:
+        case = FIRST_LINE if number == 1 else MISSING
+        return Reason(min(number, len(lines)), f"the line `{form}` is missing here", case)
+    if line != " ".join(line.split()) or "#" in line:
+        return Reason(number, f"the form is `{form}`, with one space between two words", SPACES)
+    words = line.split(" ")
+    if number == 1:
+        return Reason(number, f"the line is `saved 1`, and not `{line}`", FIRST_LINE)
+    if (number <= len(FORMS) and len(words) != len(form.split(" "))) or len(words) < 2:
+        return Reason(number, f"the form is `{form}`, and here are {len(words)} words", COUNT_OF_WORDS)
+    is_state = number > len(FORMS)
+    wrong = next((word for word in words[1 + is_state :] if not (is_word_of_state(word) if is_state else is_count(word))), None)
+    if wrong is None:
+        return None
+    limits = "of 64 bits" if is_state else "from 0 to 10^15"
+    return Reason(number, f"`{wrong}` is no whole number {limits}, or isn't written in the shortest way", NUMBERS)
+
+
+def is_count(word: str) -> bool:
+    return is_word(word) and not word.startswith("-")
+
+
+def is_word_of_state(word: str) -> bool:
+    return bool(re.fullmatch(r"0|-?[1-9][0-9]{0,18}", word)) and -LONGEST_WORD <= int(word) < LONGEST_WORD
 
 
 def unfit_position(text: bytes) -> Optional[Reason]:

@@ -7,6 +7,7 @@ from ..lines import IN_GROUP, Placed, placed_lines, split_lines, texts_of, token
 from ..streams import escaped
 from . import cases, causes, forms, misplaced, nested, positions
 from .inputs import SAVED, has_groups
+from .kinds import Cause
 
 # How much of a line is shown, and of what is said of it, in characters.
 LONGEST_SHOWN = 200
@@ -14,6 +15,12 @@ LONGEST_DETAIL = 1_000
 
 # The rules of lines without a form, at the top of a text and in a group.
 WITHOUT_FORM = (4, 26)
+
+# The rules whose cases depend on the place of the line: its block or its part.
+OF_PLACES = (4, 5, 7, 26)
+
+# The cases whose cures say all that there is to say of a form.
+WITHOUT_DETAILS = (cases.NO_MAIN, cases.SECOND_MAIN, cases.MAIN_IN_OTHER_FORM, cases.BEFORE_GROUPS, cases.GROUP_AFTER_MAIN)
 
 
 class Advice(NamedTuple):
@@ -39,7 +46,7 @@ def advice(text: bytes, line: int, rule: int) -> Advice:
     """
     entry = read_titles()[rule]
     title, cure = (without_links(entry[column], RULES) for column in ("what is wrong", "cure"))
-    if rule in (33, 36):
+    if rule in (32, 33, 36):
         return advice_on_position(text, line, rule, title, cure)
     described: List[str] = []
     found = line
@@ -49,21 +56,24 @@ def advice(text: bytes, line: int, rule: int) -> Advice:
             found, described = guilty.line, [*guilty.details]
         elif rule in nested.OF_FLAT_TEXTS:
             return Advice(None, rule, title, cure, (f"here: it is line {line} of the flat text",))
-    cause = causes.cause_of(without_position(text), found, rule)
-    case = cause.case
-    details = [f"here: {words}" for words in (*described, *cause.details)]
-    if rule == 5:
-        placed = placed_at(text, found)
-        cause = misplaced.misplaced(split_lines(text), placed) if placed else cause
-        case = cause.case
-        details = [f"here: {words}" for words in cause.details]
-    if rule in WITHOUT_FORM or rule == 7:
-        lines = split_lines(text)
-        placed = placed_at(text, found)
-        case = cases.case_of(lines, placed, rule) if placed else None
-        details += details_of_form(lines, placed, rule, case) if placed else []
+    if rule == 26:
+        found = cases.misspelt_main(split_lines(text)) or found
+    cause, on_form = cause_of(text, found, rule)
+    details = (*(f"here: {words}" for words in (*described, *cause.details)), *on_form)
     shortened = tuple(at_a_glance(detail, LONGEST_DETAIL) for detail in details)
-    return Advice(found, rule, title, (case and cases.cure_of(rule, case)) or cure, shortened)
+    return Advice(found, rule, title, (cause.case and cases.cure_of(rule, cause.case)) or cure, shortened)
+
+
+def cause_of(text: bytes, line: int, rule: int) -> Tuple[Cause, List[str]]:
+    """The cause of a refusal, and the lines of advice on the form of a line without one."""
+    lines = split_lines(text)
+    placed = placed_at(text, line) if rule in OF_PLACES else None
+    if placed is None:
+        return causes.cause_of(without_position(text), line, rule), []
+    if rule == 5:
+        return misplaced.misplaced(lines, placed), []
+    case = cases.case_of(lines, placed, rule)
+    return Cause(case=case), details_of_form(lines, placed, rule, case)
 
 
 def without_position(text: bytes) -> bytes:
@@ -79,11 +89,17 @@ def without_position(text: bytes) -> bytes:
 
 def advice_on_position(text: bytes, line: int, rule: int, title: str, cure: str) -> Advice:
     """On a saved position, or on a record of a table, whose number is in the place of a line's."""
-    reason = positions.unfit_position(text) if rule == 33 else positions.unfit_record(text, line)
+    reason = reason_on_position(text, line, rule)
     if reason is None:
-        return Advice(line if rule == 33 else None, rule, title, cure)
+        return Advice(None if rule == 36 else line, rule, title, cure)
     detail = at_a_glance(f"here: {reason.message}", LONGEST_DETAIL)
     return Advice(reason.line, rule, title, cases.cure_of(rule, reason.case) or cure, (detail,))
+
+
+def reason_on_position(text: bytes, line: int, rule: int) -> Optional[positions.Reason]:
+    if rule == 32:
+        return positions.untold_position(text, line)
+    return positions.unfit_position(text) if rule == 33 else positions.unfit_record(text, line)
 
 
 def placed_at(text: bytes, line: int) -> Optional[Placed]:
@@ -104,14 +120,17 @@ def version_of(lines: List[bytes]) -> int:
 def details_of_form(lines: List[bytes], placed: Placed, rule: int, case: Optional[str]) -> List[str]:
     """Where a line leaves its form, the form, a line of the documents that is like it, and the nearest right line."""
     tokens, version = tokens_of(lines[placed.number - 1]), version_of(lines)
-    if rule == 7 or not tokens or case in (cases.NO_MAIN, cases.SECOND_MAIN, cases.BEFORE_GROUPS, cases.GROUP_AFTER_MAIN):
+    if rule == 7 or not tokens or case in WITHOUT_DETAILS:
         return []
+    if rule == 26 and placed.tokens[0] == "group":
+        return [f"here: {forms.describe_group(tokens)}", "form: `group G`, which begins a group"]
     fault = fault_at(tokens, placed.place, version)
     if fault is None:
         return []
     row = forms.like(tokens, placed, version, fault) if placed.place != IN_GROUP else None
     right = forms.nearest(tokens, placed.place, version)
-    meant = placed._replace(tokens=texts_of(right.encode("latin-1"))) if right else placed
+    words = texts_of(right.encode("latin-1")) if right else [cases.MEANT[case]] if case in cases.MEANT else placed.tokens
+    meant = placed._replace(tokens=words)
     details = [f"here: {forms.describe_fault(tokens, fault, placed.place)}", f"form: {forms.form_for(meant, version)}"]
     return details + ([f"like it: {forms.describe_row(row)}"] if row else []) + ([f"right: {right}"] if right else [])
 
