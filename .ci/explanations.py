@@ -101,6 +101,7 @@ def cases_of_rules():
 
 
 def mistakes(trial):
+    """The mistakes of examples/mistakes: the line, the rule and its title."""
     titles = dict(re.findall(r"^\| \[(\d+)\]\([^)]*\) \| (.*?) \|", read("docs/RULES.md").decode(), re.M))
     for name, answer, _ in read_mistakes():
         path = f"examples/mistakes/{name}.cosim"
@@ -168,7 +169,7 @@ def cures_of_cases(trial):
     trial.try_that(f"tests/cures.txt lacks cases: {set(cures) - seen}", set(cures) == seen)
 
 
-def files(trial):
+def explained_files(trial):
     """Files of all kinds, and names that could forge a line or do something to a terminal."""
     for name, (text, *wanted) in ACCEPTED.items():
         status, *written = (part if isinstance(part, int) else part.replace(b"{}", name.encode()) for part in wanted)
@@ -189,6 +190,7 @@ def files(trial):
 
 
 def pages(trial):
+    """Rules, statuses and faults, as the documents have them."""
     for number in (*range(1, 25), *range(26, 38)):
         status, notes, output = trial.ask(["./explain", str(number)])
         trial.tally.compare(f"explain rule {number}", trial.ask(["./explain", "rule", str(number)]), (0, b"", output))
@@ -212,6 +214,7 @@ def pages(trial):
 
 
 def notes_of_program(trial):
+    """Notes of the program and lines of counts."""
     for note, (kind, number) in NOTES.items():
         wanted = trial.ask(["./explain", kind, str(number)])
         trial.tally.compare(f"explain {note!r}", trial.ask(["./explain", note]), (0, b"", wanted[2]))
@@ -225,6 +228,7 @@ def notes_of_program(trial):
 
 
 def words_without_form(trial):
+    """Words without a form, files that can't be read, and a program that isn't there."""
     form = trial.ask(["./explain", "--help"])[2]
     for words in ([], ["rule"], ["rule", "x"], ["law", "3"], ["--rule"], ["a", "b", "c"]):
         trial.tally.compare(f"explain {words}", trial.ask(["./explain", *words]), (2, form, b""))
@@ -235,7 +239,7 @@ def words_without_form(trial):
     trial.tally.compare("explain, no program", got, (69, b"/nowhere: No such file or directory\n", b""))
 
 
-def environments(trial):
+def explained_environments(trial):
     """A link to the script, closed streams, and a locale of ASCII alone."""
     link = os.path.join(trial.work, "links", "explain")
     os.symlink(os.path.join(trial.clone, "explain"), link)
@@ -257,5 +261,5 @@ def environments(trial):
     trial.try_that(f"calls leave {left}", not [path for path in left if os.sep + ".ci" not in path])
 
 
-CHECKS = (mistakes, lines_without_form, guilty_lines, cures_of_cases, files, pages, notes_of_program)
-CHECKS += (words_without_form, environments)
+CHECKS = (mistakes, lines_without_form, guilty_lines, cures_of_cases, explained_files, pages, notes_of_program)
+CHECKS += (words_without_form, explained_environments)

@@ -78,14 +78,17 @@ is_from_sources() {
   [ "$(line_of "$1" 0)" = "$(sum_sources)" ]
 }
 
-# Whether the kept program is the one that was kept, and that of the sources, and starts here. That it is of other sources is
-# noted in `of_others`. Where the machine or its C library is another one, the program doesn't end with status 2, which it does without words,
-# reading nothing.
+# Whether the kept program is the one that was kept, and that of the sources, and starts here. What is wrong
+# with it is noted in `of_others`. Where the machine or its C library is another one, the program doesn't end with status 2, which
+# it does without words, reading nothing.
 of_others=
 
 is_kept_right() {
   local status=0
-  if ! is_recorded "$kept" "$kept_from"; then return 1; fi
+  if ! is_recorded "$kept" "$kept_from"; then
+    if [ -e "$kept" ]; then of_others="the program that bin/ keeps isn't the one that its record is of"; fi
+    return 1
+  fi
   if ! is_from_sources "$kept_from"; then
     of_others="the program that bin/ keeps is of other sources"
     return 1
