@@ -9,6 +9,7 @@ docs/PYTHON.md of the repository is a tutorial and the reference.
 from .errors import CosimError, InexactFloat, NoMemory, NoProgram, ProgramFailed, Refused, UnfitValue, UnknownName
 from .models import Model, Saved, Verdict
 from .outcomes import Fault, Outcome, RowBudgetSpent, RunEnded, StepRefused, ZeroBudgetSpent
+from .sweeps import Sweep, SweepRow, sweep
 from .traces import Column, Difference, Row, Trace
 
 __all__ = [
@@ -28,9 +29,12 @@ __all__ = [
     "RunEnded",
     "Saved",
     "StepRefused",
+    "Sweep",
+    "SweepRow",
     "Trace",
     "UnfitValue",
     "UnknownName",
     "Verdict",
     "ZeroBudgetSpent",
+    "sweep",
 ]

@@ -1,6 +1,5 @@
 """Calls of the program as functions: an answer, or an exception."""
 import re
-import sys
 from contextlib import contextmanager
 from fractions import Fraction
 from typing import Callable, Iterator, List, NamedTuple, Optional, Sequence, Union
@@ -9,6 +8,7 @@ from .canonical import System
 from .errors import NoProgram, UnfitValue, failed, refused
 from .outcomes import STOPPED, Outcome, counts_of, outcome_of
 from .program import ACCEPTED, NO_PROGRAM, Call, Called, call, program, read_refusal
+from .progress import bar
 from .repository import read_document
 from .traces import Trace
 from .values import ticks_of
@@ -133,25 +133,12 @@ def watches(watch: Watch, piece: bytes, table: Table, is_first: bool) -> bool:
 
 @contextmanager
 def watch_of(progress: Union[bool, Watch], stop: Fraction) -> Iterator[Optional[Watch]]:
-    """The watch that a caller asks for. That of True shows a bar by tqdm; without tqdm it writes lines to standard error."""
+    """The watch that a caller asks for. That of True shows a bar."""
     if not isinstance(progress, bool):
         yield progress
         return
     if not progress:
         yield None
         return
-    try:
-        from tqdm import tqdm
-    except ImportError:
-        yield write_progress
-        return
-    with tqdm(total=float(stop), unit="s", unit_scale=True) as bar:
-
-        def show(time: Fraction, _: Fraction) -> None:
-            bar.update(float(time) - bar.n)
-
-        yield show
-
-
-def write_progress(time: Fraction, stop: Fraction) -> None:
-    print(f"cosim: {float(time):.10g} of {float(stop):.10g} seconds", file=sys.stderr)
+    with bar(float(stop), "seconds") as show:
+        yield lambda time, _: show(float(time))
