@@ -1,7 +1,7 @@
 """Traces: their points, their values, and what differs between two."""
 from dataclasses import dataclass
 from fractions import Fraction
-from typing import TYPE_CHECKING, Dict, Iterator, List, Mapping, Optional, Sequence, Tuple, Union
+from typing import TYPE_CHECKING, Any, Dict, Iterator, List, Mapping, Optional, Sequence, Tuple, Union
 
 from .canonical import Port
 from .errors import UnfitValue, UnknownName
@@ -177,6 +177,12 @@ class Trace:
         from .frames import frame_of
 
         return frame_of(self, floats)
+
+    def plot(self, names: Optional[Sequence[str]] = None, figure: Any = None) -> Any:
+        """A figure of matplotlib with a plot for each of the columns, or for all: see `cosim.plots.plot`."""
+        from .plots import plot
+
+        return plot(self, names, figure)
 
     def diff(self, other: "Trace", tolerance: Union[Given, Mapping[str, Given]] = 0) -> List[Difference]:
         """What differs between this trace and another one, in the order of their points.
