@@ -29,7 +29,7 @@ def copy_documents(folder: str) -> None:
 class BuildWithDocuments(build_py):
     def run(self) -> None:
         super().run()
-        if not self.editable_mode:
+        if not getattr(self, "editable_mode", False):
             copy_documents(self.build_lib)
 
 

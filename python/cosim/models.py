@@ -292,6 +292,8 @@ class Model:
         with started(words, text) as begun:
             is_header = True
             for piece in begun.pieces():
+                if not piece.endswith(b"\n"):
+                    break
                 trace = trace_of(Called(ACCEPTED, piece, b""), table._replace(has_header=is_header), Outcome(STOPPED))
                 is_header = False
                 yield from trace

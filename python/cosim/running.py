@@ -103,6 +103,8 @@ def read_trace(
         pieces: List[bytes] = []
         is_stopped = False
         for piece in begun.pieces():
+            if not piece.endswith(b"\n"):
+                break
             is_first = not pieces
             kept = up_to(piece, until, table, is_first) if until is not None else piece
             pieces.append(kept)

@@ -1,6 +1,7 @@
 """Values of the types of the language: exact ones of Python, and the literals and words that they are."""
 from decimal import Decimal
 from fractions import Fraction
+from numbers import Integral
 from typing import List, Optional, Union
 
 from .errors import UnfitValue
@@ -49,9 +50,9 @@ def fraction_of(given: Given, what: str) -> Fraction:
     """The number that a value is, exactly."""
     if isinstance(given, float):
         raise UnfitValue(f"{what}: {given!r} is a float, which may be another number than was written; write '{given!r}'")
-    if isinstance(given, (int, Fraction)) and not isinstance(given, bool):
-        return Fraction(given)
-    if isinstance(given, Decimal) and given.is_finite():
+    if isinstance(given, Integral) and not isinstance(given, bool):
+        return Fraction(int(given))
+    if isinstance(given, Fraction) or (isinstance(given, Decimal) and given.is_finite()):
         return Fraction(given)
     if isinstance(given, str):
         digits = given[1:] if given.startswith("-") else given

@@ -302,6 +302,31 @@ def test_no_program(counter: cosim.Model, monkeypatch: pytest.MonkeyPatch, tmp_p
             counter.check()
 
 
+def test_a_program_that_is_ended_within_a_row(counter: cosim.Model, monkeypatch: pytest.MonkeyPatch, tmp_path: pathlib.Path) -> None:
+    assert counter.canonical and counter.system
+    script = tmp_path / "program"
+    script.write_text("#!/bin/sh\nprintf 'time,index,a.y\\n0,0,0\\n1'; kill -9 $$\n")
+    script.chmod(0o755)
+    monkeypatch.setenv("COSIM", str(script))
+    calls: List[Callable[[], object]] = [
+        counter.run,
+        lambda: counter.run(until=5),
+        lambda: counter.run(progress=lambda time, stop: False),
+        lambda: list(counter.rows()),
+    ]
+    for ask in calls:
+        with pytest.raises(cosim.ProgramFailed, match="signal 9 ended the program"):
+            ask()
+
+
+def test_numbers_of_numpy() -> None:
+    numpy = pytest.importorskip("numpy")
+    model = cosim.Model.from_text(COOLER)
+    assert model.set("cooler.rate", numpy.int64(2)).parameter("cooler.rate") == 2
+    with pytest.raises(cosim.UnfitValue, match="is a float"):
+        model.set("cooler.rate", numpy.float64(0.5))
+
+
 def test_no_file() -> None:
     with pytest.raises(FileNotFoundError):
         cosim.Model.read("/nowhere/model.cosim")
