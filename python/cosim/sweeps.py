@@ -26,6 +26,9 @@ MEASURE_FAILED = "measure failed"
 REFUSED = "refused"
 PROGRAM_FAILED = "program failed"
 
+# The columns of a sweep that are neither parameters nor measures.
+OTHER_COLUMNS = ("outcome", "note")
+
 # The most runs that are one task of an executor. A task that is lost is made again as a whole.
 MOST_IN_TASK = 32
 
@@ -66,7 +69,7 @@ class Sweep:
         """The names of the columns: the parameters, `outcome`, `note` and the measures."""
         parameters = list(self.rows[0].parameters) if self.rows else []
         measures = dict.fromkeys(name for row in self.rows for name in row.measures)
-        return [*parameters, "outcome", "note", *measures]
+        return [*parameters, *OTHER_COLUMNS, *measures]
 
     def records(self) -> List[Dict[str, Any]]:
         """A dictionary for each row, with None where a run has no such measure."""
@@ -210,6 +213,9 @@ def run_case(model: Model, names: Tuple[str, ...], case: Case, measure: Optional
     try:
         measured = measure(trace)
         measures = measured if isinstance(measured, Mapping) else {"measure": measured}
+        taken = [name for name in measures if not isinstance(name, str) or name in (*names, *OTHER_COLUMNS)]
+        if taken:
+            raise UnfitValue(f"a measure can't be named {taken[0]!r}")
         done["measures"] = {name: encoded(value) for name, value in measures.items()}
     except Exception as error:  # pylint: disable=broad-except
         return {**done, "outcome": MEASURE_FAILED, "note": f"{type(error).__name__}: {error}"}

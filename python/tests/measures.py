@@ -17,3 +17,8 @@ def several(trace: cosim.Trace) -> Dict[str, Union[bool, int, Decimal, Fraction,
 def divides(trace: cosim.Trace) -> int:
     """Fails where the last value is 0.25."""
     return 1 // int(trace["cooler.degrees_now"][-1] != Decimal("0.25"))
+
+
+def named(name: str, trace: cosim.Trace) -> Dict[str, Union[bool, int, Decimal, Fraction, str, None]]:
+    """A measure of a name."""
+    return {name: len(trace)}

@@ -1,5 +1,6 @@
 """Sweeps, by executors of one machine and by a cluster. After three steps of `rate` the cooler is at 1.00 - 3 * rate."""
 import concurrent.futures
+import functools
 import json
 import os
 import pathlib
@@ -71,6 +72,14 @@ def test_measures_that_fail_are_rows(cooler: cosim.Model) -> None:
         ("completed", ""),
     ]
     assert sweep.rows[1].measures == {"measure": 1}
+
+
+def test_measures_with_the_name_of_another_column(cooler: cosim.Model) -> None:
+    names: List[Any] = ["outcome", "note", "cooler.rate", 7]
+    for name in names:
+        with concurrent.futures.ThreadPoolExecutor(1) as threads:
+            sweep = cosim.sweep(cooler, {"cooler.rate": ["0.25"]}, functools.partial(measures.named, name), threads)
+        assert (sweep.rows[0].outcome, sweep.rows[0].note) == ("measure failed", f"UnfitValue: a measure can't be named {name!r}")
 
 
 def test_no_program(cooler: cosim.Model, monkeypatch: pytest.MonkeyPatch) -> None:
