@@ -108,6 +108,22 @@ why_build() {
   fi
 }
 
+# Prints the program that ./cosim starts without a build, or says why there is none.
+find_program() {
+  local reason
+  read_crates
+  if is_kept_right; then
+    echo "$kept"
+    return
+  fi
+  reason=$(why_build)
+  if [ -n "$reason" ]; then
+    echo "${of_others:-$reason}"
+    return 1
+  fi
+  echo "$built"
+}
+
 # Writes the record of the program that was built just now, from the sources with this checksum.
 record_built() {
   local kit sum
