@@ -70,7 +70,7 @@ def choose_checks(words: list[str], document: str, checks: tuple) -> tuple[str, 
     word is `--list`, prints the checks, and ends the process."""
     names = {check.__name__: check for check in checks}
     assert len(names) == len(checks), "two checks have one name"
-    if words == ["--list"]:
+    if "--list" in words:
         print_page("\n".join(f"{name}: {' '.join(check.__doc__.split())}" for name, check in names.items()))
         sys.exit(0)
     others = [word for word in words if word not in names]

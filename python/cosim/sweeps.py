@@ -1,7 +1,9 @@
 """Sweeps: one model with many values of its parameters."""
 import concurrent.futures
 import csv
+import functools
 import hashlib
+import importlib
 import io
 import itertools
 import json
@@ -36,11 +38,17 @@ MOST_IN_TASK = 32
 TASKS_AHEAD = 64
 
 
+# How often a task may be lost with a worker of a cluster.
+MOST_LOSSES = 8
+
 # A run of a sweep: the literal of each parameter.
 Case = Tuple[str, ...]
 
 # A run that is done, as JSON has it: its literals, its outcome and note, and its measures.
 Done = Dict[str, Any]
+
+# What runs a task: some cases, one after the other.
+Runs = Callable[[Sequence[Case]], List[Done]]
 
 
 class SweepRow(NamedTuple):
@@ -180,14 +188,20 @@ def run_cases(
         with concurrent.futures.ProcessPoolExecutor() as processes:
             yield from run_cases(model, names, cases, measure, processes)
         return
-    pool = executor.get_executor() if hasattr(executor, "get_executor") else executor
     size = max(1, min(MOST_IN_TASK, len(cases) // TASKS_AHEAD))
-    tasks = iter([cases[start : start + size] for start in range(0, len(cases), size)])
-    pending = {pool.submit(run_task, model, names, task, measure) for task in itertools.islice(tasks, TASKS_AHEAD)}
+    tasks = (cases[start : start + size] for start in range(0, len(cases), size))
+    run = functools.partial(run_task, model, names, measure)
+    run_tasks = run_by_cluster if hasattr(executor, "get_executor") else run_by_pool
+    yield from run_tasks(executor, run, tasks)
+
+
+def run_by_pool(pool: concurrent.futures.Executor, run: Runs, tasks: Iterator[Sequence[Case]]) -> Iterator[Done]:
+    """Runs tasks by an executor of `concurrent.futures`."""
+    pending = {pool.submit(run, task) for task in itertools.islice(tasks, TASKS_AHEAD)}
     try:
         while pending:
             done, pending = concurrent.futures.wait(pending, return_when=concurrent.futures.FIRST_COMPLETED)
-            pending |= {pool.submit(run_task, model, names, task, measure) for task in itertools.islice(tasks, len(done))}
+            pending |= {pool.submit(run, task) for task in itertools.islice(tasks, len(done))}
             for future in done:
                 yield from future.result()
     finally:
@@ -195,7 +209,50 @@ def run_cases(
             future.cancel()
 
 
-def run_task(model: Model, names: Tuple[str, ...], cases: Sequence[Case], measure: Optional[Measure]) -> List[Done]:
+def run_by_cluster(client: Any, run: Runs, tasks: Iterator[Sequence[Case]]) -> Iterator[Done]:
+    """Runs tasks by a client of dask. A task whose result is lost with its worker is run again.
+
+    Executors of dask aren't used: they may never end a task whose worker ended as its result was fetched.
+    """
+    distributed: Any = importlib.import_module("distributed")
+
+    pending: Dict[Any, Tuple[Sequence[Case], int]] = {}
+
+    def submit(task: Sequence[Case], losses: int = 0) -> Any:
+        future = client.submit(run, task, pure=False)
+        pending[future] = task, losses
+        return future
+
+    completed = distributed.as_completed([submit(task) for task in itertools.islice(tasks, TASKS_AHEAD)])
+    try:
+        for future in completed:
+            task, losses = pending.pop(future)
+            done = result_of(future)
+            if done is None:
+                if losses == MOST_LOSSES:
+                    raise RuntimeError(f"a task was lost {MOST_LOSSES + 1} times with its worker")
+                completed.add(submit(task, losses + 1))
+                continue
+            for following in itertools.islice(tasks, 1):
+                completed.add(submit(following))
+            yield from done
+    finally:
+        client.cancel(list(pending))
+
+
+def result_of(future: Any) -> Optional[List[Done]]:
+    """What a task of a cluster gave, or None where it was lost."""
+    try:
+        done = future.result()
+    except (concurrent.futures.CancelledError, TypeError):
+        # Where a task is cancelled as its result is fetched, dask raises what is no exception.
+        if not future.cancelled():
+            raise
+        return None
+    return done if isinstance(done, list) else None
+
+
+def run_task(model: Model, names: Tuple[str, ...], measure: Optional[Measure], cases: Sequence[Case]) -> List[Done]:
     """Runs some cases, one after the other."""
     return [run_case(model, names, case, measure) for case in cases]
 
