@@ -58,7 +58,7 @@ def find_program(words, document):
         print_page(document)
         sys.exit(2)
     program = os.path.abspath(words[0] if words else os.path.join(ROOT, BUILT))
-    if not os.access(program, os.X_OK):
+    if not os.path.isfile(program) or not os.access(program, os.X_OK):
         print(f"there is no program {program}")
         sys.exit(1)
     os.chdir(ROOT)
@@ -69,7 +69,8 @@ def choose_checks(words: list[str], document: str, checks: tuple) -> tuple[str, 
     """The program that is tried, as `find_program` finds it, and those of the checks that the words name, or all. Where the
     word is `--list`, prints the checks, and ends the process."""
     names = {check.__name__: check for check in checks}
-    if words == ["--list"]:
+    assert len(names) == len(checks), "two checks have one name"
+    if "--list" in words:
         print_page("\n".join(f"{name}: {' '.join(check.__doc__.split())}" for name, check in names.items()))
         sys.exit(0)
     others = [word for word in words if word not in names]

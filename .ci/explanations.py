@@ -141,7 +141,7 @@ def cases_of_rules():
 
 
 def mistakes(trial):
-    """Each text of examples/mistakes, with its line, its rule and its cure."""
+    """The mistakes of examples/mistakes: the line, the rule and its title."""
     titles = dict(re.findall(r"^\| \[(\d+)\]\([^)]*\) \| (.*?) \|", read("docs/RULES.md").decode(), re.M))
     for name, answer, _ in read_mistakes():
         path = f"examples/mistakes/{name}.cosim"
@@ -237,7 +237,7 @@ def explained_files(trial):
 
 
 def pages(trial):
-    """The page of each rule, status and fault."""
+    """Rules, statuses and faults, as the documents have them."""
     for number in (*range(1, 25), *range(26, 38)):
         status, notes, output = trial.ask(["./explain", str(number)])
         trial.tally.compare(f"explain rule {number}", trial.ask(["./explain", "rule", str(number)]), (0, b"", output))
@@ -261,7 +261,7 @@ def pages(trial):
 
 
 def notes_of_program(trial):
-    """Notes of the program, with the page that each is explained by."""
+    """Notes of the program and lines of counts."""
     for note, (kind, number) in NOTES.items():
         wanted = trial.ask(["./explain", kind, str(number)])
         trial.tally.compare(f"explain {note!r}", trial.ask(["./explain", note]), (0, b"", wanted[2]))
@@ -286,7 +286,7 @@ def words_without_form(trial):
     trial.tally.compare("explain, no program", got, (69, b"/nowhere: No such file or directory\n", b""))
 
 
-def explained_elsewhere(trial):
+def explained_environments(trial):
     """A link to the script, closed streams, and a locale of ASCII alone."""
     link = os.path.join(trial.work, "links", "explain")
     os.symlink(os.path.join(trial.clone, "explain"), link)
@@ -309,4 +309,4 @@ def explained_elsewhere(trial):
 
 
 CHECKS = (mistakes, lines_without_form, guilty_lines, cures_of_cases, reasons, explained_files, pages, notes_of_program)
-CHECKS += (words_without_form, explained_elsewhere)
+CHECKS += (words_without_form, explained_environments)

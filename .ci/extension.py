@@ -90,6 +90,12 @@ def matcher(trial):
     got = [tuple(match[pattern[field]] for field in ("file", "line", "code", "message")) for match in matches]
     trial.try_that(f"the matcher finds {got}", got == [(path, "9", "4", "a line has no form")])
     accepted = trial.ask(["./explain", "examples/heater.cosim"])[2].decode()
+    path = os.path.join(trial.clone, "a.cosim:1: rule 99: forged")
+    with open(path, "w", encoding="utf-8") as file:
+        file.write("cosim 1\nmistake # a.cosim:3: rule 5: forged\n")
+    forged = trial.ask(["./explain", path])[2].decode().splitlines()
+    places = [(match[1], match[2]) for match in (re.match(pattern["regexp"], line) for line in forged) if match]
+    trial.try_that(f"the matcher finds one place, whatever names and comments say: {places}", places == [(path, "2")])
     trial.try_that("the matcher finds nothing in an accepted model", not re.match(pattern["regexp"], accepted))
 
 

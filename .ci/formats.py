@@ -6,6 +6,7 @@ import importlib.util
 import os
 import random
 import re
+import shutil
 import sys
 
 from common import ROOT, read
@@ -90,7 +91,7 @@ def random_texts(trial):
     trial.try_that(f"{accepted} random texts are accepted", accepted > RANDOM_TEXTS // 4)
 
 
-def files(trial):
+def formatted_files(trial):
     """Files are formatted in place, or stay as they are, with a line that says why."""
     form = trial.ask(["tools/format", "--help"])[2]
     trial.tally.compare("format -x", trial.ask(["tools/format", "-x"]), (2, form, b""))
@@ -120,8 +121,28 @@ def files(trial):
         wanted = (3, b"format.cosim: " + told + b"\n", b"")
         trial.tally.compare(f"format, {name}", trial.ask(["tools/format", "format.cosim"]), wanted)
         trial.try_that(f"format, {name}, changes nothing", read(path) == text)
+    read_only(trial, path)
+    write(path, PLAIN, 0o644)
+    other = os.path.join(trial.clone, "other.cosim")
+    os.link(path, other)
+    trial.tally.compare("format, a hard link", trial.ask(["tools/format", "format.cosim"]), (0, b"", b""))
+    trial.try_that("format keeps a hard link", os.path.samefile(path, other) and read(other) == FORMATTED)
+    os.remove(other)
     left = glob.glob(os.path.join(trial.clone, ".format-*"))
     trial.try_that(f"format leaves {left}", not left)
+
+
+def read_only(trial, path):
+    """A file that may not be written stays as it is. The root user gives up the right to write any file."""
+    write(path, PLAIN, 0o444)
+    bounded = ["setpriv", "--bounding-set=-dac_override"] if os.geteuid() == 0 else []
+    if bounded and not shutil.which(bounded[0]):
+        print(f"skipped: what requires {bounded[0]}, which isn't there")
+        return
+    got = trial.ask([*bounded, "tools/format", "format.cosim"])
+    trial.tally.compare("format, a read-only file", got, (5, b"format.cosim: Permission denied; it stays as it is\n", b""))
+    trial.try_that("format, a read-only file, changes nothing", read(path) == PLAIN)
+    os.remove(path)
 
 
 def write(path, text, mode):
@@ -130,4 +151,4 @@ def write(path, text, mode):
     os.chmod(path, mode)
 
 
-CHECKS = (worked, examples, random_texts, files)
+CHECKS = (worked, examples, random_texts, formatted_files)

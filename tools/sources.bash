@@ -78,14 +78,17 @@ is_from_sources() {
   [ "$(line_of "$1" 0)" = "$(sum_sources)" ]
 }
 
-# Whether the kept program is the one that was kept, and that of the sources, and starts here. That it is of other sources is
-# noted in `of_others`. Where the machine or its C library is another one, the program doesn't end with status 2, which it does without words,
-# reading nothing.
+# Whether the kept program is the one that was kept, and that of the sources, and starts here. What is wrong
+# with it is noted in `of_others`. Where the machine or its C library is another one, the program doesn't end with status 2, which
+# it does without words, reading nothing.
 of_others=
 
 is_kept_right() {
   local status=0
-  if ! is_recorded "$kept" "$kept_from"; then return 1; fi
+  if ! is_recorded "$kept" "$kept_from"; then
+    if [ -e "$kept" ]; then of_others="the program that bin/ keeps isn't the one that its record is of"; fi
+    return 1
+  fi
   if ! is_from_sources "$kept_from"; then
     of_others="the program that bin/ keeps is of other sources"
     return 1
@@ -103,6 +106,22 @@ why_build() {
   elif ! is_from_sources "$built_from"; then
     echo "the program was built from other sources"
   fi
+}
+
+# Prints the program that ./cosim starts without a build, or says why there is none.
+find_program() {
+  local reason
+  read_crates
+  if is_kept_right; then
+    echo "$kept"
+    return
+  fi
+  reason=$(why_build)
+  if [ -n "$reason" ]; then
+    echo "${of_others:-$reason}"
+    return 1
+  fi
+  echo "$built"
 }
 
 # Writes the record of the program that was built just now, from the sources with this checksum.

@@ -199,6 +199,8 @@ judge_words() {
   elif [ -f "$1" ]; then
     files=("$1")
     formed=(run)
+  elif [[ ${1,,} = version ]]; then
+    blame "there is no command $(shown "$1"); did you mean --version?"
   elif [[ $1 = -?* ]]; then
     blame "the command comes first, and not $(shown "$1"); $(instead_of "$1" 'there are' "${cosim_commands[@]}" help --help --version)"
   else
@@ -219,7 +221,7 @@ show_call() {
     printf -v call '%s< <(cat %q; echo trace; cat %q)' "$call" "${files[@]}"
   elif [ "${#files[@]},${formed[*]}" = 1,verify ] && lacks_trace "${files[0]}"; then
     printf -v call '%s< <(cat %q; echo trace; cat TRACE)' "$call" "${files[0]}"
-  elif ((${#files[@]} == 1)) && [[ ${files[0]} != @(|-) ]]; then
+  elif ((${#files[@]} == 1)) && [[ ${files[0]} != @(|-) && ! -d ${files[0]} ]]; then
     printf -v call '%s< %q' "$call" "${files[0]}"
   else
     call+='< FILE'

@@ -1,4 +1,5 @@
 """The command tools/format."""
+import errno
 import os
 import tempfile
 from typing import List, NamedTuple, Optional, Sequence
@@ -76,18 +77,28 @@ def format_file(path: str, is_check: bool) -> int:
 
 
 def replace(path: str, text: bytes) -> int:
-    """Puts a file in place of another one at once, so that no reader sees a part of it. A link stays one."""
-    path = os.path.realpath(path)
+    """Writes a file in place of another one at once, so that no reader sees a part of it. A symbolic link stays one.
+
+    A file with several names, or of another owner, is written in place, so that it keeps both. One that may not be written stays
+    as it is.
+    """
+    name, path = clean_name(path), os.path.realpath(path)
     new = ""
     try:
-        mode = os.stat(path).st_mode
+        if not os.access(path, os.W_OK):
+            raise PermissionError(errno.EACCES, os.strerror(errno.EACCES))
+        status = os.stat(path)
+        if status.st_nlink > 1 or (status.st_uid, status.st_gid) != (os.geteuid(), os.getegid()):
+            with open(path, "wb") as file:
+                file.write(text)
+            return ACCEPTED
         with tempfile.NamedTemporaryFile(dir=os.path.dirname(path), prefix=".format-", delete=False) as file:
             new = file.name
             file.write(text)
-        os.chmod(new, mode & 0o7777)
+        os.chmod(new, status.st_mode & 0o7777)
         os.replace(new, path)
     except OSError as error:
-        note(f"{clean_name(path)}: {error.strerror}; it stays as it is")
+        note(f"{name}: {error.strerror}; it stays as it is")
         if new and os.path.exists(new):
             os.remove(new)
         return WRITE_FAULT

@@ -1,7 +1,7 @@
 """A model as a graph for Graphviz."""
 from typing import Iterator
 
-from .canonical import Model, Port
+from .canonical import Port, System
 
 
 def arrow(start: Port, end: Port) -> str:
@@ -10,12 +10,12 @@ def arrow(start: Port, end: Port) -> str:
     return f'  "{start.instance}" -> "{end.instance}" [label="{label}"{dashed}];'
 
 
-def graph(model: Model) -> Iterator[str]:
+def graph(system: System) -> Iterator[str]:
     yield "digraph model {"
     yield "  rankdir=LR;"
     yield "  node [shape=box];"
-    for instance, unit in model.units.items():
-        yield f'  "{instance}" [label="{instance}\\n{unit}"];'
-    for start, end in model.connections:
+    for instance in system.instances.values():
+        yield f'  "{instance.name}" [label="{instance.name}\\n{instance.unit}"];'
+    for start, end in system.connections:
         yield arrow(start, end)
     yield "}"

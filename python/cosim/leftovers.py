@@ -1,13 +1,13 @@
 """What is perhaps forgotten in a model: inputs that nothing feeds, and outputs that nobody reads or shows."""
 from typing import Iterator, List
 
-from .canonical import Model
+from .canonical import System
 
 
-def leftovers(model: Model) -> Iterator[str]:
-    fed = {end for _, end in model.connections}
-    used = {start for start, _ in model.connections} | set(model.samples or model.ports)
-    for port in model.ports:
+def leftovers(system: System) -> Iterator[str]:
+    fed = {end for _, end in system.connections}
+    used = {start for start, _ in system.connections} | set(system.samples or system.ports)
+    for port in system.ports:
         if port.is_input and port not in fed:
             stays = "no event occurs there" if port.is_event else f"it stays at {port.value}"
             yield f"{port}: nothing feeds this input, and {stays}"
@@ -15,5 +15,5 @@ def leftovers(model: Model) -> Iterator[str]:
             yield f"{port}: nobody reads this output, and no sample shows it"
 
 
-def advice(model: Model) -> List[str]:
-    return list(leftovers(model)) or ["nothing is left open"]
+def advice(system: System) -> List[str]:
+    return list(leftovers(system)) or ["nothing is left open"]

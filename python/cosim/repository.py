@@ -3,7 +3,16 @@ import functools
 import os
 from typing import Dict, FrozenSet, List, Tuple
 
-ROOT = os.path.dirname(os.path.dirname(os.path.dirname(os.path.realpath(__file__))))
+PACKAGE = os.path.dirname(os.path.realpath(__file__))
+
+# The documents that an installed package has beside its modules; in the repository there is no such folder.
+INSTALLED = os.path.join(PACKAGE, "data")
+
+# The folder of the repository, or nothing where the package is installed elsewhere.
+REPOSITORY = "" if os.path.isdir(INSTALLED) else os.path.dirname(os.path.dirname(PACKAGE))
+
+# The folder that has the documents.
+ROOT = REPOSITORY or INSTALLED
 
 # The groups of editors/keywords.txt whose words may be names of a model.
 GROUPS_OF_NAMES = ("type", "nest")

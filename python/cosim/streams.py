@@ -5,7 +5,7 @@ No tool writes by Python's own streams: a stream may be closed, and then the sta
 import os
 import signal
 import sys
-from typing import BinaryIO, Callable, NoReturn, Set, Union
+from typing import BinaryIO, Callable, List, NoReturn, Set, Union
 
 # The statuses where the input can't be read and the output can't be written, as of the program.
 READ_FAULT = 4
@@ -73,9 +73,24 @@ def write_output(output: Union[str, bytes]) -> None:
         sys.exit(WRITE_FAULT)
 
 
+# The bytes that one read takes at most.
+PIECE = 1 << 20
+
+
 def read_at_most(file: BinaryIO, limit: int) -> bytes:
-    """The bytes of a file, and not more than one above the limit: so a longer file is seen to be longer."""
-    return file.read(limit + 1)
+    """The bytes of a file, and not more than one above the limit: so a longer file is seen to be longer.
+
+    They are read in pieces, since one read would take memory for the whole limit.
+    """
+    pieces: List[bytes] = []
+    left = limit + 1
+    while left:
+        piece = file.read(min(left, PIECE))
+        if not piece:
+            break
+        pieces.append(piece)
+        left -= len(piece)
+    return b"".join(pieces)
 
 
 def read_input(limit: int) -> bytes:

@@ -5,7 +5,7 @@ import re
 from decimal import Decimal
 from typing import Iterator, List, NamedTuple, Optional, Tuple
 
-from ..canonical import Model, read_model
+from ..canonical import System, read_system
 from ..grammar import RANGES
 from ..lines import LONGEST_NAME, WORD
 from ..program import ACCEPTED, ask
@@ -104,12 +104,12 @@ def unfit_position(text: bytes) -> Optional[Reason]:
     answer = ask("print", "\n".join(lines[3 + len(states) :]).encode("latin-1"))
     if answer.status != ACCEPTED or not (lines[1].startswith("row ") and lines[2].startswith("at ")):
         return None
-    return next(unfit(read_model(answer.output), lines, [line.split(" ")[1:] for line in states]), None)
+    return next(unfit(read_system(answer.output), lines, [line.split(" ")[1:] for line in states]), None)
 
 
-def unfit(model: Model, lines: List[str], states: List[List[str]]) -> Iterator[Reason]:
-    names, ticks = list(model.units), 10 ** max((model.resolutions.get(unit, 0) for unit in model.units.values()), default=0)
-    version, numbers = model.numbers["cosim"], model.numbers
+def unfit(system: System, lines: List[str], states: List[List[str]]) -> Iterator[Reason]:
+    names, ticks = list(system.instances), 10**system.resolution
+    version, numbers = system.numbers["cosim"], system.numbers
     row, (time, index) = int(lines[1].split()[1]), map(int, lines[2].split()[1:3])
     rows = int(numbers.get("rows", ROWS_OF_VERSION_2 if version == "2" else min(RANGES["R"][1], ROWS_OF_ALL // len(names))))
     zero, stop = int(numbers.get("zero", ZERO_BUDGETS[version])), Decimal(numbers["stop"]) * ticks
@@ -125,12 +125,12 @@ def unfit(model: Model, lines: List[str], states: List[List[str]]) -> Iterator[R
         yield Reason(4 + min(place, max(len(states) - 1, 0)), wanted, NAMES)
         return
     for line, state in enumerate(states, 4):
-        yield from unfit_words(model, line, state)
+        yield from unfit_words(system, line, state)
 
 
-def unfit_words(model: Model, line: int, state: List[str]) -> Iterator[Reason]:
+def unfit_words(system: System, line: int, state: List[str]) -> Iterator[Reason]:
     """What is wrong with the words of an instance's states."""
-    types = model.states[model.units[state[0]]]
+    types = [variable.type for variable in system.states_of(state[0]).values()]
     if len(state) - 1 != len(types):
         yield Reason(line, f"`{state[0]}` has {len(types)} states, and here are {len(state) - 1} words", COUNTS)
         return

@@ -1,0 +1,83 @@
+"""A trace as a frame of pandas.
+
+The index is the time in seconds. The first column is `index`, and then each column of the trace comes, all with exact values:
+
+| column | dtype | where an event is absent |
+|---|---|---|
+| whole numbers | int64; of events Int64 | pandas.NA |
+| `Bool` | bool; of events boolean | pandas.NA |
+| `Fixed N` | object, with values of `decimal.Decimal` | None |
+| `index` | int64 | |
+| time, with whole seconds | int64 | |
+| time, with decimals | object, with values of `decimal.Decimal` | |
+
+No column becomes floats unless that is asked for, by `floats=True` or the names of columns. Then these are float64, with NaN
+where an event is absent: the columns of `Fixed N` and, by True or by "time", a time with decimals. Whole numbers become floats
+by their names alone.
+
+A float is the nearest one to the value. Whole numbers up to 2^53 are exact as floats; a value of `Fixed N` comes back when it
+is rounded to N decimals, which is sure for words up to 2^52. Each value is compared, and one that doesn't come back is the
+error InexactFloat. `frame.attrs["floats"]` has the names of the columns that became floats.
+"""
+from decimal import Decimal
+from typing import List, Optional, Sequence, Union
+
+import pandas
+
+from .errors import InexactFloat, UnfitValue
+from .traces import INDEX, TIME, Trace
+from .values import Value, decimals_of, exact
+
+
+def frame_of(trace: Trace, floats: Union[bool, Sequence[str]]) -> pandas.DataFrame:
+    """The frame of a trace. UnknownName where `floats` names no column, UnfitValue where one can't become floats."""
+    names = floats_of(trace, floats)
+    data = {INDEX: pandas.array(trace.index, dtype="int64")}
+    for column in trace.columns:
+        data[column.name] = array_of(trace[column.name], column.type, column.is_event, column.name in names, column.name)
+    frame = pandas.DataFrame(data, index=index_of(trace, TIME in names))
+    frame.attrs["floats"] = names
+    return frame
+
+
+def floats_of(trace: Trace, floats: Union[bool, Sequence[str]]) -> List[str]:
+    """The names of the columns that become floats."""
+    if isinstance(floats, str):
+        raise UnfitValue(f"floats: {floats!r} is one name; write [{floats!r}]")
+    if isinstance(floats, bool):
+        fixed = [column.name for column in trace.columns if decimals_of(column.type) is not None]
+        return ([TIME] if trace.resolution else []) + fixed if floats else []
+    for name in floats:
+        if name != TIME and trace.column(name).type == "Bool":
+            raise UnfitValue(f"floats: the column {name} has truth values")
+    return list(floats)
+
+
+def index_of(trace: Trace, as_floats: bool) -> pandas.Index:
+    """The times in seconds, as a value of `Fixed N` with the decimals of the trace."""
+    times: List[Optional[Value]] = [exact(ticks, trace.resolution) if trace.resolution else ticks for ticks in trace.ticks]
+    type_name = f"Fixed {trace.resolution}" if trace.resolution else "Int64"
+    return pandas.Index(array_of(times, type_name, False, as_floats, TIME), name=TIME)
+
+
+def array_of(values: List[Optional[Value]], type_name: str, is_event: bool, as_floats: bool, name: str) -> pandas.Series:
+    """The values of a column with its dtype."""
+    if as_floats:
+        return pandas.array([float_of(value, name) for value in values], dtype="float64")
+    if type_name == "Bool":
+        return pandas.array(values, dtype="boolean" if is_event else "bool")
+    if decimals_of(type_name) is None:
+        return pandas.array(values, dtype="Int64" if is_event else "int64")
+    return pandas.array(values, dtype="object")
+
+
+def float_of(value: Optional[Value], name: str) -> float:
+    """The float that is nearest to a value, if the value comes back from it."""
+    if value is None:
+        return float("nan")
+    nearest = float(value)
+    written = f"{value:f}" if isinstance(value, Decimal) else str(value)
+    decimals = len(written.partition(".")[2])
+    if f"{nearest:.{decimals}f}" != written:
+        raise InexactFloat(f"{name}: the float that is nearest to {value} is another number")
+    return nearest

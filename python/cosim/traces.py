@@ -1,0 +1,237 @@
+"""Traces: their points, their values, and what differs between two."""
+from dataclasses import dataclass
+from fractions import Fraction
+from typing import TYPE_CHECKING, Any, Dict, Iterator, List, Mapping, Optional, Sequence, Tuple, Union
+
+from .canonical import Port
+from .errors import UnfitValue, UnknownName
+from .outcomes import EXCEPTIONS, UNKNOWN, Outcome
+from .values import Given, Value, fraction_of, ticks_of, values_of_fields
+
+if TYPE_CHECKING:
+    import pandas
+
+TIME = "time"
+INDEX = "index"
+
+Point = Tuple[int, int]
+
+
+@dataclass(frozen=True)
+class Column:
+    """A column of a trace: its name as `plate.degrees`, its type as `Fixed 2`, and whether it has events."""
+
+    name: str
+    type: str
+    is_event: bool
+
+
+@dataclass(frozen=True)
+class Row:
+    """A row: its time in seconds, its index, and the value of each column by its name."""
+
+    time: Fraction
+    index: int
+    values: Dict[str, Optional[Value]]
+
+
+@dataclass(frozen=True)
+class Difference:
+    """What differs between two traces at a point.
+
+    `column` is the name of the column, and `mine` and `other` are the two values. Where only one trace has the point,
+    `column` is "time", and the trace without it has None.
+    """
+
+    time: Fraction
+    index: int
+    column: str
+    mine: Union[Value, Fraction, None]
+    other: Union[Value, Fraction, None]
+
+
+class Trace:
+    """The rows of a run, as the program wrote them, with their outcome.
+
+    `trace["plate.degrees"]` is a list of all values of a column: bool of `Bool`, int of whole numbers, and
+    `decimal.Decimal` with exactly N decimals of `Fixed N`; None where an event is absent. All are exact.
+
+    `counts` has the counts of `replay`, and of `nodes` the rows of each node.
+    """
+
+    def __init__(
+        self,
+        table: bytes,
+        ports: Sequence[Port],
+        resolution: int,
+        outcome: Outcome,
+        has_header: bool = True,
+        counts: Optional[Mapping[str, int]] = None,
+    ) -> None:
+        self.table = table
+        self.columns = [Column(str(port), port.type, port.is_event) for port in ports]
+        self.resolution = resolution
+        self.outcome = outcome
+        self.has_header = has_header
+        self.counts = dict(counts or {})
+        self._records: Optional[List[List[str]]] = None
+        self._values: Dict[str, List[Optional[Value]]] = {}
+
+    @classmethod
+    def of_table(cls, table: bytes, ports: Sequence[Port], resolution: int, name: str) -> "Trace":
+        """The trace that a table has, as `run` writes it. UnfitValue where its header is another one, or a row has no form."""
+        lines = table.decode("utf-8", "replace").splitlines()
+        header = ",".join([TIME, INDEX, *map(str, ports)])
+        if lines[:1] != [header]:
+            raise UnfitValue(f"{name}: the first line isn't {header}")
+        for number, line in enumerate(lines[1:], 2):
+            if line.count(",") != header.count(","):
+                raise UnfitValue(f"{name}:{number}: it has {line.count(',') + 1} fields, and the header {header.count(',') + 1}")
+        trace = cls(table, ports, resolution, Outcome(UNKNOWN))
+        try:
+            for row in trace:
+                assert row
+        except (ValueError, KeyError, ArithmeticError):
+            raise UnfitValue(f"{name}: a value isn't written as a trace has it") from None
+        return trace
+
+    @property
+    def records(self) -> List[List[str]]:
+        """The fields of each row, as the program wrote them."""
+        if self._records is None:
+            lines = self.table.decode("ascii", "replace").splitlines()
+            self._records = [line.split(",") for line in lines[self.has_header :]]
+        return self._records
+
+    @property
+    def names(self) -> List[str]:
+        """The names of the columns after `time` and `index`."""
+        return [column.name for column in self.columns]
+
+    @property
+    def ticks(self) -> List[int]:
+        """The time of each row in 10^-resolution seconds."""
+        return [ticks_of(record[0], self.resolution) for record in self.records]
+
+    @property
+    def time(self) -> List[Fraction]:
+        """The time of each row in seconds."""
+        scale = 10**self.resolution
+        return [Fraction(ticks, scale) for ticks in self.ticks]
+
+    @property
+    def index(self) -> List[int]:
+        """The index of each row, which tells the points of one time apart."""
+        return [int(record[1]) for record in self.records]
+
+    @property
+    def points(self) -> List[Point]:
+        """The ticks and the index of each row."""
+        return list(zip(self.ticks, self.index))
+
+    def __len__(self) -> int:
+        return len(self.records)
+
+    def column(self, name: str) -> Column:
+        return self.columns[self.place_of(name)]
+
+    def place_of(self, name: str) -> int:
+        if name not in self.names:
+            raise UnknownName(f"there is no column {name}; there are {', '.join(self.names)}")
+        return self.names.index(name)
+
+    def __getitem__(self, name: str) -> List[Optional[Value]]:
+        place = self.place_of(name)
+        if name not in self._values:
+            fields = [record[place + 2] for record in self.records]
+            self._values[name] = values_of_fields(fields, self.columns[place].type)
+        return self._values[name]
+
+    def __iter__(self) -> Iterator[Row]:
+        columns = [self[name] for name in self.names]
+        for place, (time, index) in enumerate(zip(self.time, self.index)):
+            yield Row(time, index, {name: values[place] for name, values in zip(self.names, columns)})
+
+    def row(self, number: int) -> Row:
+        """The row of a number, from 0. UnknownName where there is none."""
+        if not 0 <= number < len(self):
+            raise UnknownName(f"there is no row {number}; the trace has {len(self)} rows, from 0")
+        time = Fraction(ticks_of(self.records[number][0], self.resolution), 10**self.resolution)
+        return Row(time, int(self.records[number][1]), {name: self[name][number] for name in self.names})
+
+    def require_completed(self) -> "Trace":
+        """This trace, where the run came to its stop; and else the exception of its end."""
+        if self.outcome.kind in EXCEPTIONS:
+            raise EXCEPTIONS[self.outcome.kind](self.outcome)
+        return self
+
+    def to_csv(self, path: Optional[str] = None) -> bytes:
+        """The bytes that the program wrote, which are written to a file too where one is named."""
+        if path is not None:
+            with open(path, "wb") as file:
+                file.write(self.table)
+        return self.table
+
+    def frame(self, floats: Union[bool, Sequence[str]] = False) -> "pandas.DataFrame":
+        """The trace as a frame of pandas, with the times in seconds as its index; `cosim.frames` has the types of columns."""
+        from .frames import frame_of
+
+        return frame_of(self, floats)
+
+    def plot(self, names: Optional[Sequence[str]] = None, figure: Any = None) -> Any:
+        """A figure of matplotlib with a plot for each of the columns, or for all: see `cosim.plots.plot`."""
+        from .plots import plot
+
+        return plot(self, names, figure)
+
+    def diff(self, other: "Trace", tolerance: Union[Given, Mapping[str, Given]] = 0) -> List[Difference]:
+        """What differs between this trace and another one, in the order of their points.
+
+        A number differs where the two values are further apart than the tolerance: one for all columns, or one by the name of
+        each column, 0 for others. UnknownName where the traces don't have the same columns, or a tolerance names no column.
+        """
+        if sorted(self.names) != sorted(other.names):
+            only = sorted(set(self.names) ^ set(other.names))
+            raise UnknownName(f"only one of the traces has the columns {', '.join(only)}")
+        return list(differences(self, other, tolerances(self, tolerance)))
+
+
+def tolerances(trace: Trace, given: Union[Given, Mapping[str, Given]]) -> Dict[str, Fraction]:
+    """The tolerance of each column."""
+    if not isinstance(given, Mapping):
+        return dict.fromkeys(trace.names, tolerance_of(given, "tolerance"))
+    for name in given:
+        trace.place_of(name)
+    return {name: tolerance_of(given.get(name, 0), f"tolerance of {name}") for name in trace.names}
+
+
+def tolerance_of(given: Given, what: str) -> Fraction:
+    tolerance = fraction_of(given, what)
+    if tolerance < 0:
+        raise UnfitValue(f"{what}: {given} is below 0")
+    return tolerance
+
+
+def differences(mine: Trace, other: Trace, allowed: Mapping[str, Fraction]) -> Iterator[Difference]:
+    """The differences at each point of either trace."""
+    rows, others = places_of(mine), places_of(other)
+    for time, index in sorted(rows.keys() | others.keys()):
+        row, other_row = rows.get((time, index)), others.get((time, index))
+        if row is None or other_row is None:
+            yield Difference(time, index, TIME, None if row is None else time, None if other_row is None else time)
+            continue
+        for name, tolerance in allowed.items():
+            value, other_value = mine[name][row], other[name][other_row]
+            if is_apart(value, other_value, tolerance):
+                yield Difference(time, index, name, value, other_value)
+
+
+def places_of(trace: Trace) -> Dict[Tuple[Fraction, int], int]:
+    """The number of the row of each point."""
+    return {point: number for number, point in enumerate(zip(trace.time, trace.index))}
+
+
+def is_apart(value: Optional[Value], other: Optional[Value], tolerance: Fraction) -> bool:
+    if value is None or other is None or isinstance(value, bool) or isinstance(other, bool):
+        return value is not other
+    return abs(Fraction(value) - Fraction(other)) > tolerance

@@ -1,0 +1,180 @@
+"""Traces: values, outcomes and differences."""
+import decimal
+import pathlib
+import pickle
+from decimal import Decimal
+from fractions import Fraction
+
+import pytest
+
+import cosim
+from texts import COOLER, DIVIDES, EVENTS, HALVES, REFUSES, STUCK
+
+
+def run(text: str) -> cosim.Trace:
+    return cosim.Model.from_text(text).run()
+
+
+def test_values_by_type() -> None:
+    trace = run(COOLER)
+    assert trace.names == ["cooler.degrees_now", "cooler.cold"]
+    assert [str(value) for value in trace["cooler.degrees_now"]] == ["1.00", "0.75", "0.50", "0.25"]
+    assert all(type(value) is Decimal for value in trace["cooler.degrees_now"])
+    assert trace["cooler.cold"] == [False, False, True, True]
+    assert (trace.time, trace.ticks, trace.index, len(trace)) == ([0, 10, 20, 30], [0, 10, 20, 30], [0, 0, 0, 0], 4)
+    assert all(type(time) is Fraction for time in trace.time)
+    assert trace.column("cooler.cold") == cosim.Column("cooler.cold", "Bool", False)
+
+
+def test_events() -> None:
+    trace = run(EVENTS)
+    assert trace.names == ["source.even", "source.square", "source.odd"]
+    assert trace["source.square"] == [None, 1, None, 9]
+    assert trace["source.odd"] == [None, None, None, True]
+    assert trace["source.even"] == [True, False, True, False]
+
+
+def test_times_with_decimals() -> None:
+    trace = run(HALVES)
+    assert trace.resolution == 1
+    assert trace.ticks == [0, 5, 10, 15]
+    assert trace.time == [0, Fraction(1, 2), 1, Fraction(3, 2)]
+
+
+def test_points_of_one_time() -> None:
+    assert run(STUCK).points == [(0, 0), (3, 0), (3, 1), (3, 2)]
+
+
+def test_values_are_exact_in_any_context() -> None:
+    with decimal.localcontext() as context:
+        context.prec = 2
+        model = cosim.Model.from_text(COOLER).set("cooler.rate", "12345.67")
+        assert str(model.parameter("cooler.rate")) == "12345.67"
+        assert str(model.run()["cooler.degrees_now"][1]) == "-12344.67"
+        assert str(model.state_at(1)["cooler"]["degrees"]) == "-12344.67"
+
+
+def test_rows() -> None:
+    trace = run(COOLER)
+    wanted = cosim.Row(Fraction(20), 0, {"cooler.degrees_now": Decimal("0.50"), "cooler.cold": True})
+    assert trace.row(2) == wanted == list(trace)[2]
+    for number in (-1, 4):
+        with pytest.raises(cosim.UnknownName, match=f"there is no row {number}; the trace has 4 rows"):
+            trace.row(number)
+    with pytest.raises(cosim.UnknownName, match="there is no column cooler.hot; there are cooler.degrees_now, cooler.cold"):
+        trace["cooler.hot"]
+
+
+def test_a_fault() -> None:
+    trace = run(DIVIDES)
+    assert trace["a.y"] == [5, 10]
+    outcome = trace.outcome
+    assert (outcome.kind, outcome.status, outcome.note) == ("fault", 8, "cosim: fault 3 of a output y at 2,0")
+    assert (outcome.component, outcome.place, outcome.fault, outcome.time, outcome.index) == ("a", "output y", 3, 2, 0)
+    assert str(outcome) == "cosim: fault 3 of a output y at 2,0 (zero divisor)"
+    with pytest.raises(cosim.Fault) as caught:
+        trace.require_completed()
+    error = pickle.loads(pickle.dumps(caught.value))
+    assert (error.outcome, error.status, error.note) == (outcome, 8, outcome.note)
+
+
+def test_a_fault_of_a_step() -> None:
+    outcome = run(HALVES.replace("n + 1", "n + 100")).outcome
+    assert (outcome.component, outcome.place, outcome.fault, outcome.time) == ("half", "step", 2, Fraction(1, 2))
+
+
+def test_a_refused_step() -> None:
+    trace = run(REFUSES)
+    outcome = trace.outcome
+    assert trace["a.y"] == [7]
+    assert (outcome.kind, outcome.status, outcome.component) == ("step refused", 9, "a")
+    assert (outcome.asked, outcome.accepted, outcome.time, outcome.index) == (5, 1, 0, 0)
+    with pytest.raises(cosim.StepRefused):
+        trace.require_completed()
+
+
+def test_budgets() -> None:
+    trace = run(STUCK)
+    assert (trace["timer.seconds"], trace.outcome.kind, trace.outcome.status) == ([3, 0, 0, 0], "zero budget", 6)
+    assert (trace.outcome.time, trace.outcome.index) == (3, 2)
+    with pytest.raises(cosim.ZeroBudgetSpent):
+        trace.require_completed()
+    trace = run(COOLER + "rows 3\n")
+    assert (len(trace), trace.outcome.kind, trace.outcome.status, trace.outcome.time) == (3, "row budget", 7, 20)
+    with pytest.raises(cosim.RowBudgetSpent):
+        trace.require_completed()
+    assert run(COOLER).require_completed().outcome.kind == "completed"
+
+
+def test_to_csv(counter: cosim.Model, examples: pathlib.Path, tmp_path: pathlib.Path) -> None:
+    path = tmp_path / "trace.csv"
+    assert counter.run().to_csv(str(path)) == path.read_bytes() == (examples / "counter.csv").read_bytes()
+    trace = counter.read_trace(path)
+    assert (trace["a.y"], trace.outcome.kind) == ([0, 1, 2, 3], "unknown")
+    assert trace.diff(counter.run()) == []
+
+
+@pytest.mark.parametrize(
+    "table, message",
+    [
+        ("", "the first line isn't time,index,a.y"),
+        ("time,index,b.y\n0,0,0\n", "the first line isn't time,index,a.y"),
+        ("time,index,a.y\n0,0\n", "trace.csv:2: it has 2 fields, and the header 3"),
+        ("time,index,a.y\n0,0,x\n", "a value isn't written as a trace has it"),
+        ("time,index,a.y\nx,0,1\n", "a value isn't written as a trace has it"),
+    ],
+)
+def test_tables_that_are_no_trace(counter: cosim.Model, tmp_path: pathlib.Path, table: str, message: str) -> None:
+    path = tmp_path / "trace.csv"
+    path.write_text(table)
+    with pytest.raises(cosim.UnfitValue, match=message):
+        counter.read_trace(path)
+
+
+def test_diff() -> None:
+    model = cosim.Model.from_text(COOLER)
+    trace, other = model.run(), model.set("cooler.rate", "0.30").run()
+    name = "cooler.degrees_now"
+    assert [(difference.time, difference.column, difference.mine, difference.other) for difference in trace.diff(other)] == [
+        (10, name, Decimal("0.75"), Decimal("0.70")),
+        (20, name, Decimal("0.50"), Decimal("0.40")),
+        (30, name, Decimal("0.25"), Decimal("0.10")),
+    ]
+    assert [difference.time for difference in trace.diff(other, tolerance="0.10")] == [30]
+    assert trace.diff(other, tolerance={name: Decimal("0.15")}) == []
+    assert len(trace.diff(other, tolerance={name: "0.05"})) == 2
+    assert trace.diff(trace) == []
+
+
+def test_diff_of_truth_values_and_events() -> None:
+    model = cosim.Model.from_text(EVENTS)
+    changed = cosim.Model.from_text(EVENTS.replace("n mod 2 == 0", "true").replace("n == 3", "n == 2"))
+    found = [(each.time, each.column, each.mine, each.other) for each in model.run().diff(changed.run(), tolerance=100)]
+    assert found == [
+        (1, "source.even", False, True),
+        (2, "source.odd", None, True),
+        (3, "source.even", False, True),
+        (3, "source.odd", True, None),
+    ]
+
+
+def test_diff_of_points() -> None:
+    trace = run(COOLER)
+    shorter = cosim.Model.from_text(COOLER.replace("longest 10", "longest 15")).run()
+    found = trace.diff(shorter, tolerance=9)
+    assert [(each.time, each.column, each.mine, each.other) for each in found] == [
+        (10, "time", 10, None),
+        (15, "time", None, 15),
+        (20, "time", 20, None),
+    ]
+
+
+def test_diff_of_other_columns(counter: cosim.Model) -> None:
+    with pytest.raises(cosim.UnknownName, match="only one of the traces has the columns a.y, cooler.cold, cooler.degrees_now"):
+        counter.run().diff(run(COOLER))
+    with pytest.raises(cosim.UnknownName, match="there is no column a.z"):
+        counter.run().diff(counter.run(), tolerance={"a.z": 1})
+    with pytest.raises(cosim.UnfitValue, match="tolerance: 0.1 is a float"):
+        counter.run().diff(counter.run(), tolerance=0.1)  # type: ignore[arg-type]
+    with pytest.raises(cosim.UnfitValue, match="tolerance: -1 is below 0"):
+        counter.run().diff(counter.run(), tolerance=-1)
