@@ -1,5 +1,6 @@
 -- Laws of structured code: the machine follows it, it is valid, and programs of it have facts.
 use Rattle.std.specs.Prelude.{◌≡◌, ℕ, ◌+◌, ◌≤◌, ℤ, List, length, IsTrue, Some}
+use Rattle.model_rules.specs.Limits.{cost_limit, input_limit, local_limit, output_limit, state_limit}
 use Rattle.unit_vm.specs.declared.instruction.Instruction.{Instruction}
 use Rattle.unit_vm.specs.declared.instruction.Flow.TheVariants as flow
 use Rattle.unit_vm.specs.declared.program.CodeFacts.{CodeFacts}
@@ -37,7 +38,7 @@ pub record FitsPart (sizes : Sizes) (role : Role) (piece : Piece) (finish : Inst
   pub leaves : height_behind piece 0 ≡ Some height
   pub operand : takes finish ≤ height
   pub low : top_of piece 0 ≤ 64
-  pub cheap : cost piece + 1 ≤ 100000
+  pub cheap : cost piece + 1 ≤ cost_limit
 
 -- The part is valid, with these heights, and costs as much as the piece and one.
 pub record IsValidPart (sizes : Sizes) (role : Role) (piece : Piece) (finish : Instruction) : Type 0 where
@@ -64,10 +65,10 @@ pub record IsPieceCode (sizes : Sizes) (role : Role) (code : List Instruction) :
 
 -- A program is made of pieces, and is within the limits of a unit.
 pub record IsOfPieces (program : Program) : Type 0 where
-  pub outputs : length program.outputs ≤ 32
-  pub states : program.sizes.states ≤ 64
-  pub inputs : program.sizes.inputs ≤ 32
-  pub locals : program.sizes.locals ≤ 64
+  pub outputs : length program.outputs ≤ output_limit
+  pub states : program.sizes.states ≤ state_limit
+  pub inputs : program.sizes.inputs ≤ input_limit
+  pub locals : program.sizes.locals ≤ local_limit
   pub parts : (entry : Entry) (code : List Instruction) → part_at program entry ≡ Some code → IsPieceCode program.sizes (role_of entry) code
 
 -- Programs made of pieces are valid: they have facts.

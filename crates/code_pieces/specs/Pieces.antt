@@ -1,6 +1,7 @@
 -- Structured code: pieces, their instructions, what they do and what they need. Places and counters are the machine's business.
 use Rattle.std.specs.Prelude.{ℕ, zero, suc, ◌+◌, ◌-◌, ◌*◌, max, Bool, true, false, ◌&&◌, if◌then◌else◌, nat_eq, nat_le, ℤ, List, [], ◌∷◌, ◌++◌, length, Option}
 use Rattle.std.specs.Prelude.{Some, None, unwrap_or}
+use Rattle.model_rules.specs.Limits.{turn_limit}
 use Rattle.fixed_words.specs.Operations.{is_zero}
 use Rattle.unit_vm.specs.declared.instruction.Instruction.{Instruction}
 use Rattle.unit_vm.specs.declared.instruction.Instruction.TheVariants.{Jump, JumpFalse, Loop, Next}
@@ -88,7 +89,7 @@ is_made sizes (One instruction) = is_on (flow_of instruction) && is_argued sizes
 is_made sizes (Then first second) = is_made sizes first && is_made sizes second
 is_made sizes (Choice first second) = is_made sizes first && is_made sizes second
 is_made sizes (When body) = is_made sizes body
-is_made sizes (Turns count body) = (nat_le 1 count && nat_le count 1000) && is_made sizes body
+is_made sizes (Turns count body) = (nat_le 1 count && nat_le count turn_limit) && is_made sizes body
 
 -- What is left of a height by something that pops one word first.
 abbrev pub popped : (ℕ → Option ℕ) → ℕ → Option ℕ

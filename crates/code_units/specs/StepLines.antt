@@ -1,6 +1,7 @@
 -- Code of step lines: a piece that changes slots and the accepted length, and keeps the stack as high as it was.
 use Rattle.std.specs.Prelude.{ℕ, Bool, true, false, ◌&&◌, nat_le, List, [], ◌∷◌, map, Option, Some, None}
 use Rattle.std.specs.Option.{option_map}
+use Rattle.model_rules.specs.Limits.{depth_limit, turn_limit}
 use Rattle.fixed_words.specs.declared.types.Ty.{Ty}
 use Rattle.code_units.specs.Expressions.{code_of}
 use Rattle.code_units.specs.Scopes.{named}
@@ -25,7 +26,7 @@ pub record LineCoded : Type 0 where
   pub is_right : Bool
 
 abbrev pub is_right_in : Scope → Expr → Bool
-is_right_in scope value = (code_of value scope).agrees && (is_ranged value && nat_le (depth_of value) 32)
+is_right_in scope value = (code_of value scope).agrees && (is_ranged value && nat_le (depth_of value) depth_limit)
 
 -- One after the other.
 abbrev pub nothing : LineCoded
@@ -60,7 +61,7 @@ if_coded then_lines (Some else_lines) =
     record { piece = Choice then_lines.piece else_lines.piece; is_right = then_lines.is_right && else_lines.is_right }
 
 abbrev pub repeat_coded : ℕ → LineCoded → LineCoded
-repeat_coded count body = record { piece = Turns count body.piece; is_right = (nat_le 1 count && nat_le count 1000) && body.is_right }
+repeat_coded count body = record { piece = Turns count body.piece; is_right = (nat_le 1 count && nat_le count turn_limit) && body.is_right }
 
 abbrev pub LineCoding : Type 0
 LineCoding = Scope → LineCoded

@@ -2,6 +2,7 @@
 use Rattle.std.specs.Prelude.{◌≡◌, ◌≤◌, true, ℤ, List, map, length, Option, Some, None}
 use Rattle.std.specs.List.{AllByRecursion}
 use Rattle.std.specs.Option.{option_map, IfSome}
+use Rattle.model_rules.specs.Limits.{cost_limit, input_limit, local_limit, output_limit, state_limit}
 use Rattle.fixed_words.specs.Types.{AreDecimals}
 use Rattle.code_units.specs.Expressions.{code_of}
 use Rattle.code_units.specs.Scopes.{scope_of}
@@ -46,21 +47,21 @@ program_of unit params = program_in (scope_of unit params) unit
 -- not cost too much.
 pub record IsCallable (scope : Scope) (value : Expr) : Type 0 where
   pub right : is_right_in scope value ≡ true
-  pub cheap : expression_call_cost value ≤ 100000
+  pub cheap : expression_call_cost value ≤ cost_limit
 
 -- Lines that may be run.
 pub record IsRunnable (scope : Scope) (lines : List Line) : Type 0 where
   pub right : (lines_code lines scope).is_right ≡ true
-  pub cheap : step_call_cost lines ≤ 100000
+  pub cheap : step_call_cost lines ≤ cost_limit
 
 -- A unit that may be compiled with words of its parameters: its numbers, types, expressions and lines are within the
 -- limits, and targets are states and locals. Units of what is run of a system in range that is well-formed are such.
 pub record IsCompilable (unit : Unit) (params : List ℤ) : Type 0 where
   pub one_each : length params ≡ length unit.params
-  pub outputs : length unit.outputs ≤ 32
-  pub states : length unit.states ≤ 64
-  pub inputs : length unit.inputs ≤ 32
-  pub locals : length unit.locals ≤ 64
+  pub outputs : length unit.outputs ≤ output_limit
+  pub states : length unit.states ≤ state_limit
+  pub inputs : length unit.inputs ≤ input_limit
+  pub locals : length unit.locals ≤ local_limit
   pub types : AllByRecursion (λ variable. AreDecimals variable.ty) (variables_of unit)
   pub output_types : AllByRecursion (λ output. AreDecimals output.ty) unit.outputs
   pub values : AllByRecursion (λ output. IsCallable (scope_of unit params) output.value) unit.outputs

@@ -2,8 +2,8 @@
 use Rattle.std.specs.Prelude.{ℕ, Bool, true, false, nat_le, List, [], ◌∷◌, ◌≤◌, length, codes, IfSome, Option, Some, None, if◌then◌else◌, ⊤}
 use Rattle.std.specs.Option.{option_map, unwrap_or}
 use Rattle.std.specs.Str.{bytes_eq}
+use Rattle.model_rules.specs.Limits.{rows_limit, text_limit}
 use Rattle.guess_board.specs.declared.guesses.Policy.TheVariants.{Hold}
-use Rattle.unit_tree.specs.Texts.{text_limit}
 use Rattle.command_line.specs.Generations.{Asked, CanGive, asked_by}
 use Rattle.command_line.specs.Options.{◌>>=◌, given_by, is_given_none}
 use Rattle.command_line.specs.declared.commands.Command.{Command}
@@ -50,7 +50,7 @@ saving_of given = do
 abbrev pub splitting_of : Given → Option Splitting
 splitting_of given = do
   seed ← given.seed
-  rounds ← required_within 1 100000 given.rounds
+  rounds ← required_within 1 rows_limit given.rounds
   without_options (record { seed = seed; rounds = rounds }) (record given { seed = None; rounds = None })
 
 -- The command of a word with the options that were given: a row for each command, with the options that it takes.

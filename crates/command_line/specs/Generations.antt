@@ -1,5 +1,6 @@
 -- What is asked of the generator by the options of a command, and the system that it gives.
 use Rattle.std.specs.Prelude.{ℕ, ◌*◌, Option, Some}
+use Rattle.model_rules.specs.Limits.{cell_limit, instance_limit, rows_limit}
 use Rattle.unit_tree.specs.declared.system.System.{System}
 use Rattle.cosim_gen.specs.Generated.{CanGenerate, generated}
 use Rattle.command_line.specs.Options.{◌>>=◌}
@@ -17,9 +18,9 @@ pub record Asked : Type 0 where
 abbrev pub asked_by : Given → Option Asked
 asked_by given = do
   seed ← given.seed
-  instances ← required_within 1 64 given.instances
-  rows ← required_within 1 100000 given.rows
-  cells ← within 1 1000000 (rows * instances)
+  instances ← required_within 1 instance_limit given.instances
+  rows ← required_within 1 rows_limit given.rows
+  cells ← within 1 cell_limit (rows * instances)
   Some (record { seed = seed; instances = instances; rows = rows })
 
 -- There is such a system.

@@ -10,7 +10,7 @@ use crate::replaying::{Replaying, replaying_of};
 use crate::running::{Running, running_of};
 use crate::saving::{Saving, saving_of};
 use crate::splitting::{Splitting, splitting_of};
-use unit_text::LONGEST_TEXT;
+use model_rules::LONGEST_TEXT;
 
 /// A command of the program, with its options.
 #[derive(Clone, Copy, Debug, PartialEq, Eq)]

@@ -15,7 +15,7 @@ use Rattle.text_accept.specs.Accepting.{IsAcceptedAs, IsRefusedAt}
 use Rattle.text_accept.proofs.Acceptance.{judged_once}
 use Rattle.text_tokens.proofs.LineLemmas.{length_le_size_of}
 use Rattle.unit_tree.specs.Lines.{size_of}
-use Rattle.unit_tree.specs.Texts.{text_limit}
+use Rattle.model_rules.specs.Limits.{text_limit}
 use Rattle.unit_tree.specs.declared.system.System.{System}
 use Rattle.command_line.specs.declared.commands.Command.TheVariants.{Flatten}
 use Rattle.cosim_call.specs.Answers.{Answer, IsEndOfWork, piece_answer}

@@ -57,7 +57,7 @@ use Rattle.unit_tree.specs.Printable.{IsPrintable}
 use Rattle.unit_tree.specs.SourceLines.{in_canonical_order, numbers_of}
 use Rattle.unit_tree.specs.Trace.{IsTraceOf, Row, Stand, last_point, row_at, rows_of}
 use Rattle.unit_tree.specs.WellFormed.{IsWellFormed}
-use Rattle.unit_tree.specs.Texts.{text_limit}
+use Rattle.model_rules.specs.Limits.{text_limit}
 use Rattle.unit_tree.specs.declared.ending.Ending.{Ending}
 use Rattle.unit_tree.specs.declared.ending.Ending.TheVariants.{Completed}
 use Rattle.unit_tree.specs.declared.system.System.{System}

@@ -10,7 +10,7 @@ use Rattle.trace_csv.specs.Columns.{columns_of}
 use Rattle.trace_rows.specs.Reports.{AreTicketsTold}
 use Rattle.trace_rows.specs.Sums.{sum_shown}
 use Rattle.trace_rows.specs.declared.report.Report.{Report}
-use Rattle.unit_tree.specs.Texts.{text_limit}
+use Rattle.model_rules.specs.Limits.{text_limit}
 use Rattle.unit_tree.specs.Trace.{HasCells, IsTraceOf, Row}
 use Rattle.unit_tree.specs.declared.ending.Ending.{Ending}
 use Rattle.unit_tree.specs.declared.system.System.{System}

@@ -25,7 +25,7 @@ use Rattle.trace_verify.specs.declared.parting.Parted.{Parted}
 use Rattle.unit_tree.specs.Compositions.{run_of}
 use Rattle.unit_tree.specs.Routes.{IsOrderOf}
 use Rattle.unit_tree.specs.Successor.{Position}
-use Rattle.unit_tree.specs.Texts.{text_limit}
+use Rattle.model_rules.specs.Limits.{text_limit}
 use Rattle.unit_tree.specs.Trace.{IsPositionOf}
 use Rattle.unit_tree.specs.declared.system.System.{System}
 use Rattle.unit_upgrade.specs.Upgrades.{upgraded}

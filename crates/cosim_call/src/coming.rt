@@ -6,6 +6,7 @@ ghost use Rattle.cosim_call.specs.Coming.{ReadsInput, IsInLimit, PutsPiece, Puts
 use crate::status::Status;
 use cosim_io::{ReadEnd, Sink, Source, read_all};
 use fixed_words::{List, NoMemory};
+use model_rules::Rule;
 use std::alloc::{AllocFailed, Global};
 
 /// A command did its work, and put what its answer puts: how it ended, and the lines of its notes, which are told now.
@@ -45,9 +46,6 @@ impl<T: Drop> From<AllocFailed<T>> for Stopped {
     }
 }
 
-/// The rule of an input that is too long.
-const SIZE_RULE: u8 = 2;
-
 /// Reads the whole input of a command that takes at most so many bytes, or nothing for a command that reads none.
 pub fn read_input<S: Source>(
     alloc: Global,
@@ -65,7 +63,7 @@ pub fn read_input<S: Source>(
         Ok(text) => Ok(text),
         Err(ReadEnd::TooLong) => Err(Stopped::Refused {
             line: 1,
-            rule: SIZE_RULE,
+            rule: Rule::TextFits.number(),
         }),
         Err(ReadEnd::Fault) => Err(Stopped::ReadFault),
         Err(ReadEnd::NoMemory) => Err(Stopped::NoMemory),

@@ -3,6 +3,7 @@
 use Rattle.std.specs.Prelude.{ℕ, ◌-◌, ◌*◌, ◌%◌, ◌≤◌, pos, List, [], ◌∷◌, ◌++◌, map, codes, Some, None}
 use Rattle.std.specs.Fmt.{decimal}
 use Rattle.std.specs.List.{range_with_len}
+use Rattle.model_rules.specs.Limits.{cell_limit, instance_limit, rows_limit}
 use Rattle.draw_numbers.specs.Draws.{draw}
 use Rattle.fixed_words.specs.declared.types.Literal.{Literal}
 use Rattle.fixed_words.specs.declared.types.Literal.TheVariants as literal
@@ -24,10 +25,10 @@ use Rattle.unit_tree.specs.declared.unit.Unit.{Unit}
 -- How many components are generated, and how many rows their trace may have: what the rules of a system allow.
 pub record CanGenerate (instances rows : ℕ) : Type 0 where
   pub one_instance : 1 ≤ instances
-  pub few_instances : instances ≤ 64
+  pub few_instances : instances ≤ instance_limit
   pub one_row : 1 ≤ rows
-  pub few_rows : rows ≤ 100000
-  pub few_in_all : rows * instances ≤ 1000000
+  pub few_rows : rows ≤ rows_limit
+  pub few_in_all : rows * instances ≤ cell_limit
 
 -- ---- Units
 

@@ -1,6 +1,7 @@
 -- Decimal numbers without a sign: which bytes are digits, what they are worth, and how a number is spelled.
 use Rattle.std.specs.Prelude.{◌≡◌, ℕ, ◌+◌, ◌-◌, ◌*◌, ◌^◌, ◌<◌, ◌≤◌, Bool, ◌&&◌, nat_le, List, [], ◌∷◌, ◌++◌, length, IsTrue, Option, Some, None, if◌then◌else◌}
 use Rattle.std.specs.List.{list_all}
+use Rattle.model_rules.specs.Limits.{decimals_limit}
 
 -- The bytes `0` to `9`.
 abbrev pub is_digit : ℕ → Bool
@@ -23,7 +24,7 @@ pub record IsNumber (digits decimals : ℕ) (text : List ℕ) : Type 0 where
   pub fraction : List ℕ
   pub spelled : text ≡ whole ++ pointed fraction
   pub is_whole : IsTrue (list_all is_digit whole) × (0 < length whole)
-  pub is_fraction : IsTrue (list_all is_digit fraction) × (length fraction ≡ decimals) × (decimals ≤ 9)
+  pub is_fraction : IsTrue (list_all is_digit fraction) × (length fraction ≡ decimals) × (decimals ≤ decimals_limit)
   pub value : number_from 0 (whole ++ fraction) ≡ digits
   pub bounded : digits ≤ 2 ^ 63
 

@@ -1,5 +1,6 @@
 -- Value types: the kind of each type, and the words that it may hold.
 use Rattle.std.specs.Prelude.{◌≤◌, ⊤, Bool, ◌&&◌, ◌-◌, ◌^◌, ℤ, pos, negsuc, int_le}
+use Rattle.model_rules.specs.Limits.{decimals_limit}
 use Rattle.fixed_words.specs.declared.types.Kind.{Kind}
 use Rattle.fixed_words.specs.declared.types.Kind.TheVariants as kinds
 use Rattle.fixed_words.specs.declared.types.Ty.{Ty}
@@ -42,5 +43,5 @@ is_word_of ty word = is_between (lowest ty) (highest ty) word
 
 -- The decimals of a fixed-point type are at most 9.
 abbrev pub AreDecimals : Ty → Type 0
-AreDecimals (Fixed decimals) = decimals ≤ 9
+AreDecimals (Fixed decimals) = decimals ≤ decimals_limit
 AreDecimals _ = ⊤

@@ -2,11 +2,13 @@ ghost use Rattle.std.specs.Prelude.{◌≡◌, ◌==◌, ◌+◌, ◌≤◌, ◌
 ghost use Rattle.std.specs.List.{position_or_len};
 ghost use Rattle.fixed_words.specs.Digits.{IsNumber, number_of_digits};
 
+use model_rules::MOST_DECIMALS;
+
 /// The greatest number that digits may make: with a `-` before it, it is the least word.
 const GREATEST: u64 = 1 << 63;
 
-/// The most decimals that a number may have.
-const MOST_DECIMALS: usize = 9;
+/// The most digits after the point.
+const LONGEST_FRACTION: usize = MOST_DECIMALS as usize;
 
 /// A number without a sign: what its digits make without the point, and how many stand behind it.
 #[derive(Clone, Copy)]
@@ -75,7 +77,7 @@ pub(crate) fn read_number(text: &[u8]) -> Option<Unsigned>
 {
     let point = point_place(text);
     let fraction = fraction_behind(text, point)?;
-    if point == 0 || fraction.len() > MOST_DECIMALS {
+    if point == 0 || fraction.len() > LONGEST_FRACTION {
         return None;
     }
     let digits = read_digits(read_digits(0, &text[..point])?, fraction)?;

@@ -7,6 +7,7 @@ use Rattle.link_laws.specs.declared.fact.Fact.TheVariants.{Limit, Reply, Word}
 use Rattle.link_laws.specs.declared.fact.Said.TheVariants.{Accepted}
 use Rattle.std.specs.List.{AllByRecursion}
 use Rattle.std.specs.Prelude.{Bool, IfSome, nat_lt, true, ◌&&◌, ◌^◌, ◌≡◌}
+use Rattle.model_rules.specs.Limits.{rows_limit}
 use Rattle.unit_tree.specs.Compositions.{Composition, Member}
 use Rattle.unit_tree.specs.declared.expr.Expr.{Expr, fold-Expr}
 use Rattle.unit_tree.specs.declared.expr.Expr.TheOpen.{Expr-F}
@@ -14,11 +15,11 @@ use Rattle.unit_tree.specs.declared.unit.Unit.{Unit}
 
 -- A fact is short: its row is below 100,000, and a length that it tells is at most the greatest word.
 abbrev pub is_short : Fact → Bool
-is_short (Word row place seen) = nat_lt row 100000
-is_short (Limit row instance (AtMost local)) = nat_lt row 100000 && nat_lt local (2 ^ 63)
-is_short (Limit row instance asked) = nat_lt row 100000
-is_short (Reply row instance redo (Accepted accepted)) = nat_lt row 100000 && nat_lt accepted (2 ^ 63)
-is_short (Reply row instance redo said) = nat_lt row 100000
+is_short (Word row place seen) = nat_lt row rows_limit
+is_short (Limit row instance (AtMost local)) = nat_lt row rows_limit && nat_lt local (2 ^ 63)
+is_short (Limit row instance asked) = nat_lt row rows_limit
+is_short (Reply row instance redo (Accepted accepted)) = nat_lt row rows_limit && nat_lt accepted (2 ^ 63)
+is_short (Reply row instance redo said) = nat_lt row rows_limit
 
 -- ---- Numbers of a `max`
 

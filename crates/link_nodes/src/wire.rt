@@ -6,9 +6,7 @@ ghost use Rattle.link_nodes.specs.Wire.{encoding, written, HasTypes};
 
 use crate::fields::{Fields, fact_of, fields_of};
 use link_core::{Asked, Fact, Said};
-
-/// No row of a trace has this number or a greater one.
-const MOST_ROWS: u64 = 100_000;
+use model_rules::MOST_ROWS;
 
 /// Writes fields.
 fn write(fields: Fields) -> [u8; 22]
@@ -95,14 +93,14 @@ fn is_short(fact: Fact) -> bool
             row,
             asked: Asked::Max(length),
             ..
-        } => row < MOST_ROWS && length < MOST_LENGTH,
+        } => row < u64::from(MOST_ROWS) && length < MOST_LENGTH,
         Fact::Reply {
             row,
             said: Said::Accepted(length),
             ..
-        } => row < MOST_ROWS && length < MOST_LENGTH,
+        } => row < u64::from(MOST_ROWS) && length < MOST_LENGTH,
         Fact::Word { row, .. } | Fact::Limit { row, .. } | Fact::Reply { row, .. } => row
-            < MOST_ROWS,
+            < u64::from(MOST_ROWS),
     }
 }
 

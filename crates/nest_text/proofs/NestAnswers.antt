@@ -3,7 +3,8 @@ use Rattle.std.proofs.Common.{◌≡◌, ℕ, ◌+◌, ◌-◌, ◌≤◌, List,
 use Rattle.std.specs.Prelude.{slice_get}
 use Rattle.std.specs.Result.{IsErrAnd}
 use Rattle.unit_tree.specs.Lines.{size_of}
-use Rattle.unit_tree.specs.Texts.{IsRefused, Reads, text_limit}
+use Rattle.model_rules.specs.Limits.{text_limit}
+use Rattle.unit_tree.specs.Texts.{IsRefused, Reads}
 use Rattle.unit_tree.specs.declared.system.System.{System}
 use Rattle.nest_text.specs.NestLines.{SourceLine}
 use Rattle.nest_text.specs.Nests.{GroupLines, IsNestOf, groups_of, parted}

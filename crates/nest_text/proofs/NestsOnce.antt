@@ -9,7 +9,8 @@ use Rattle.list_laws.proofs.Truths.{true_is_false}
 use Rattle.language_laws.proofs.RefusalLaws.{refused_once}
 use Rattle.unit_tree.specs.Lines.{lines_of, size_of, without_return}
 use Rattle.unit_tree.specs.Parts.{text_forms}
-use Rattle.unit_tree.specs.Texts.{HaveForms, IsFirstBroken, IsRefused, IsUnended, Reads, line_limit, text_limit}
+use Rattle.model_rules.specs.Limits.{line_limit, text_limit}
+use Rattle.unit_tree.specs.Texts.{HaveForms, IsFirstBroken, IsRefused, IsUnended, Reads}
 use Rattle.unit_tree.specs.declared.system.System.{System}
 use Rattle.unit_text.proofs.AnswerLaws.{answered_once}
 use Rattle.unit_text.proofs.KnownForms.{known}

@@ -6,7 +6,8 @@ use Rattle.std.proofs.lemmas.Option.{slice_get-get_or}
 use Rattle.list_laws.proofs.Lists.{back_of, front_of}
 use Rattle.list_laws.proofs.Truths.{lt_not_told, lt_told}
 use Rattle.unit_tree.specs.Lines.{size_of}
-use Rattle.unit_tree.specs.Texts.{IsRefused, Reads, text_limit}
+use Rattle.model_rules.specs.Limits.{text_limit}
+use Rattle.unit_tree.specs.Texts.{IsRefused, Reads}
 use Rattle.unit_tree.specs.declared.system.System.{System}
 use Rattle.unit_text.proofs.AnswerLaws.{answered_once}
 use Rattle.unit_text.proofs.KnownForms.{known}

@@ -8,7 +8,8 @@
 use Rattle.std.specs.Prelude.{◌≡◌, ◌⊎◌, ◌≤◌, ◌<◌, ℕ, ◌+◌, ◌-◌, Bool, true, false, List, [], ◌∷◌, ◌++◌, map, codes, Some, IsTrue, IsFalse, slice_get}
 use Rattle.std.specs.List.{AllByRecursion, AllZip, flat_map, list_any}
 use Rattle.unit_tree.specs.Lines.{lines_of, size_of}
-use Rattle.unit_tree.specs.Texts.{IsRefused, Reads, text_limit}
+use Rattle.model_rules.specs.Limits.{text_limit}
+use Rattle.unit_tree.specs.Texts.{IsRefused, Reads}
 use Rattle.unit_tree.specs.declared.system.System.{System}
 use Rattle.nest_text.specs.NestLines.{AreLines, SourceLine, are_placed, may_stand, place_behind}
 use Rattle.nest_text.specs.declared.kind.Kind.{Kind}

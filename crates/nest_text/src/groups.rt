@@ -1,7 +1,7 @@
 //! Groups of a nested text, gathered and read one after the other.
 ghost use Rattle.std.specs.Prelude.{◌≡◌, ◌<◌, ◌≤◌, ◌+◌, ◌∷◌, ◌++◌, [], codes, length, IfOk, OnOk};
 ghost use Rattle.unit_tree.specs.Lines.{lines_of};
-ghost use Rattle.unit_tree.specs.Texts.{text_limit};
+ghost use Rattle.model_rules.specs.Limits.{text_limit};
 ghost use Rattle.nest_text.specs.Nests.{GroupLines, groups_of};
 ghost use Rattle.nest_text.specs.Reading.{AddsLine, Gathers, GroupAnswers, GroupsAnswer, InsideAnswers, IsGathered, NextGroupIs, OfLines, SaysInside};
 

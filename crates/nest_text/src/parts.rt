@@ -1,6 +1,6 @@
 //! A nested text cut at its line `main`.
 ghost use Rattle.std.specs.Prelude.{◌≡◌, ◌≤◌, ◌+◌, length, true, IfOk, IfSome};
-ghost use Rattle.unit_tree.specs.Texts.{text_limit};
+ghost use Rattle.model_rules.specs.Limits.{text_limit};
 ghost use Rattle.nest_text.specs.NestLines.{IsKind};
 ghost use Rattle.nest_text.specs.Nests.{is_main};
 ghost use Rattle.nest_text.specs.Reading.{CutAnswers, MainIs, OfLines, first_stray};
@@ -11,12 +11,10 @@ use crate::fault::NestFault;
 use crate::kind::kind_of_line;
 use crate::place::Place;
 use fixed_words::NoMemory;
+use model_rules::Rule;
 use std::alloc::Global;
 use text_lines::without_return;
 use text_tokens::cut_line;
-
-/// Rule 26: a line that may not stand where it is, or no line `main`.
-const PARTS_RULE: u8 = 26;
 
 /// The number of the first line that may not stand where it is.
 fn first_stray(alloc: Global, text: &[u8]) -> Result<Option<u32>, NoMemory>
@@ -80,13 +78,13 @@ pub(crate) fn cut_parts(alloc: Global, text: &[u8]) -> Result<(&[u8], u32, &[u8]
     let Some(cut) = find_main(alloc, text)? else {
         return Err(NestFault::Line {
             line: 1,
-            rule: PARTS_RULE,
+            rule: Rule::PartHoldsLine.number(),
         });
     };
     match first_stray(alloc, text)? {
         Some(line) => Err(NestFault::Line {
             line,
-            rule: PARTS_RULE,
+            rule: Rule::PartHoldsLine.number(),
         }),
         None => Ok(cut),
     }

@@ -1,15 +1,16 @@
 //! Reading of nested texts.
 ghost use Rattle.std.specs.Prelude.{◌+◌, ◌≤◌, length};
-ghost use Rattle.unit_tree.specs.Texts.{text_limit};
+ghost use Rattle.model_rules.specs.Limits.{text_limit};
 ghost use Rattle.nest_text.specs.Reading.{AnswersNest, MainAnswers};
 
 use crate::fault::NestFault;
 use crate::groups::read_groups;
 use crate::nest::Nest;
 use crate::parts::cut_parts;
+use model_rules::{LONGEST_TEXT, Rule};
 use std::alloc::Global;
 use text_tokens::size;
-use unit_text::{LONGEST_TEXT, ReadText, SIZE_RULE, TextFault, read_system};
+use unit_text::{ReadText, TextFault, read_system};
 use unit_tree::System;
 
 /// What stands behind the line `main` of this number.
@@ -38,7 +39,7 @@ pub fn read_nest(alloc: Global, text: &[u8]) -> Result<Nest, NestFault>
     if size(text) > LONGEST_TEXT {
         return Err(NestFault::Line {
             line: 1,
-            rule: SIZE_RULE,
+            rule: Rule::TextFits.number(),
         });
     }
     let (front, main_line, rest) = cut_parts(alloc, text)?;

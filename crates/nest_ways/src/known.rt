@@ -10,16 +10,14 @@ use crate::numbers::KeptSets;
 use crate::scopes::AllScopes;
 use crate::steps::{Known, steps_of};
 use fixed_words::NoMemory;
+use model_rules::MOST_CONNECTIONS;
 use nest_names::{LEVELS, NestNames, at, top};
 use std::alloc::Global;
 use unit_tree::Wire;
 
-/// The most connections of a system.
-pub const MOST_WIRES: usize = 2048;
-
 /// The most connections whose targets are worked out beforehand, in the order in which they are asked for. Where all ports of groups are
 /// there, the flat system has one or more for each, so that no more are asked for: at the last of these it is too large.
-const MOST_TARGETS: usize = MOST_WIRES + 1;
+const MOST_TARGETS: usize = MOST_CONNECTIONS + 1;
 
 /// Works out an input of a group, after those that are known.
 fn add_known<'n>(

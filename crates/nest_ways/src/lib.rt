@@ -27,5 +27,5 @@ mod targets;
 mod walk;
 
 pub use guide::Guide;
-pub use known::{MOST_WIRES, Ways};
+pub use known::Ways;
 pub use targets::reached;

@@ -14,13 +14,14 @@ use crate::guide::Guide;
 use crate::sets::NumberSet;
 use crate::steps::{Known, Step, only_inside};
 use fixed_words::{List, NoMemory};
+use model_rules::MOST_CONNECTIONS;
 use nest_names::at;
 use std::alloc::Global;
 
 /// The most inputs of components that get numbers for one group. Connections lead to 2,048 at most, where they don't lead to too many. One of
 /// them may have eight numbers, where names of instances join to the same: each for another scope of the group from which it is reached, and
 /// for another component in each of these, of which there are 64 at most. Beyond, what is kept has no set, and is put from each scope anew.
-pub(crate) const MOST_NUMBERS: usize = 8 * 2048;
+pub(crate) const MOST_NUMBERS: usize = 8 * MOST_CONNECTIONS;
 
 /// What is kept of inputs of groups, by numbers.
 #[derive(Drop)]

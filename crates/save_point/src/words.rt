@@ -10,13 +10,11 @@ ghost use Rattle.save_point.specs.SavedTexts.{number_limit};
 ghost use Rattle.unit_tree.specs.Tokens.{is_word_byte};
 
 use itoa::Buffer;
+use model_rules::LONGEST_NAME;
 use unit_tree::{is_letter, is_word_byte};
 
 /// The greatest number that a saved text may have.
 const GREATEST_NUMBER: u64 = 1_000_000_000_000_000;
-
-/// The most bytes of a word of the language.
-const LONGEST_WORD: usize = 32;
 
 /// The number that bytes are the text of, perhaps with more in front, as a sign or zeros.
 fn parse_number(bytes: &[u8]) -> Option<u64>
@@ -88,7 +86,7 @@ fn are_word_bytes(bytes: &[u8]) -> bool
 fn goes_on(others: &[u8]) -> bool
     ensures { result ≡ (list_all is_word_byte others.now && nat_lt (length others.now) 32) }
 {
-    are_word_bytes(others) && others.len() < LONGEST_WORD
+    are_word_bytes(others) && others.len() < LONGEST_NAME
 }
 
 /// Whether bytes are a word of the language, a reserved one too.

@@ -1,6 +1,10 @@
 -- How flattening goes about it: early ends, and answers.
 use Rattle.std.specs.Prelude.{◌≡◌, ◌⊎◌, ◌≤◌, ◌<◌, ℕ, zero, suc, ◌+◌, Bool, true, nat_lt, IsTrue, List, [], ◌∷◌, ◌++◌, length, Option, Some, None, Result, Ok, Err, ⊤}
 use Rattle.std.specs.Option.{option_map, unwrap_or}
+use Rattle.model_rules.specs.Numbers.{number_of}
+use Rattle.model_rules.specs.declared.rule.Rule.{Rule}
+use Rattle.model_rules.specs.declared.rule.Rule.TheVariants as all
+use Rattle.model_rules.specs.Limits.{connection_limit, instance_limit}
 use Rattle.unit_tree.specs.Printable.{IsPrintable}
 use Rattle.unit_tree.specs.declared.system.Instance.{Instance}
 use Rattle.unit_tree.specs.declared.system.System.{System}
@@ -59,7 +63,7 @@ wire_between from to = record { from = flat_port from; to = flat_port to }
 
 -- The components of the flat system, which are no more than there may be; or that it is too large.
 abbrev pub MakesLeaves : Nest → Result (List Instance) Unflat → Type 0
-MakesLeaves nest (Ok made) = (made ≡ leaves nest levels top) × (length made ≤ 64)
+MakesLeaves nest (Ok made) = (made ≡ leaves nest levels top) × (length made ≤ instance_limit)
 MakesLeaves nest (Err unflat.TooLarge) = IsTooLarge nest
 MakesLeaves nest (Err unflat.NoMemory) = ⊤
 
@@ -69,7 +73,7 @@ with_parts main parts = record main { instances = parts.instances; wires = parts
 
 -- The parts of the flat system, which are no more than there may be; or that it is too large.
 abbrev pub MakesParts : Nest → Result FlatParts Unflat → Type 0
-MakesParts nest (Ok parts) = (with_parts nest.main parts ≡ flat_of nest) × (length parts.instances ≤ 64) × (length parts.wires ≤ 2048)
+MakesParts nest (Ok parts) = (with_parts nest.main parts ≡ flat_of nest) × (length parts.instances ≤ instance_limit) × (length parts.wires ≤ connection_limit)
 MakesParts nest (Err unflat.TooLarge) = IsTooLarge nest
 MakesParts nest (Err unflat.NoMemory) = ⊤
 
@@ -82,10 +86,14 @@ abbrev pub is_less : ℕ → Option ℕ → Bool
 is_less line None = true
 is_less line (Some least) = nat_lt line least
 
+-- The rule among all, and its number.
+abbrev pub rule_of : GroupRule → Rule
+rule_of rules.Names = all.GroupIsNamed
+rule_of rules.Nesting = all.GroupsEnd
+rule_of rules.Ports = all.GroupPortsAreThere
+
 abbrev pub rule_number : GroupRule → ℕ
-rule_number rules.Names = 27
-rule_number rules.Nesting = 28
-rule_number rules.Ports = 29
+rule_number some = number_of (rule_of some)
 
 -- What breaks a rule holds at no line, or the least is told with the rule.
 abbrev pub RefusesLeast : (ℕ → Type 0) → ℕ → NestFault → Type 0

@@ -5,6 +5,7 @@
 --   rule 29   a port of a group isn't there, an `out` name stands twice, or a group has settings
 --   rule 30   the flat system is too large
 use Rattle.std.specs.Prelude.{◌≡◌, ◌⊎◌, ◌≤◌, ◌<◌, ℕ, length, Some, IsTrue, slice_get}
+use Rattle.model_rules.specs.Limits.{connection_limit, instance_limit}
 use Rattle.unit_tree.specs.Printable.{IsPrintable}
 use Rattle.nest_names.specs.Flattening.{flat_of}
 use Rattle.sub_flat.specs.Cycles.{ContainsItself}
@@ -19,7 +20,7 @@ use Rattle.nest_text.specs.declared.nest.Nest.{Nest}
 -- The flat system has more instances or connections than there may be, or no canonical text that is read back, as where a name is too
 -- long.
 abbrev pub IsTooLarge : Nest → Type 0
-IsTooLarge nest = (64 < length (flat_of nest).instances) ⊎ (2048 < length (flat_of nest).wires) ⊎ (IsPrintable (flat_of nest) → ⊥)
+IsTooLarge nest = (instance_limit < length (flat_of nest).instances) ⊎ (connection_limit < length (flat_of nest).wires) ⊎ (IsPrintable (flat_of nest) → ⊥)
 
 -- ---- Refusals
 

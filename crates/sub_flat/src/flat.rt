@@ -8,21 +8,16 @@ ghost use Rattle.nest_names.specs.Flattening.{flat_port, flat_wire, flat_wires, 
 use crate::fault::Unflat;
 use crate::samples::flat_samples;
 use fixed_words::{List, NoMemory};
+use model_rules::{LONGEST_NAME, MOST_CONNECTIONS, MOST_INSTANCES};
 use nest_names::{
     LEVELS, NestNames, Scope, Spot, copied_name, copied_scope, flat_name, flat_port, follow,
     inside, top,
 };
-use nest_ways::{Guide, MOST_WIRES, Ways, reached};
+use nest_ways::{Guide, Ways, reached};
 use std::alloc::Global;
 use std::mem::replace;
 use unit_print::is_printable;
 use unit_tree::{Instance, PortName, Setting, System, Wire};
-
-/// The most instances of a system.
-const MOST_INSTANCES: usize = 64;
-
-/// The most bytes of a name.
-const LONGEST_NAME: usize = 32;
 
 fn copied_settings(alloc: Global, settings: &[Setting]) -> Result<List<Setting>, NoMemory>
     ensures { IfOk result (λ made. made ≡ settings.now) }
@@ -115,7 +110,7 @@ fn put_to(alloc: Global, from: &Spot, to: &[Spot], wires: &mut List<Wire>) -> Re
     ensures { PutsWithin 2048 wires.old wires.new (map (wire_between from.now) to.now) result }
 {
     for one in to {
-        if wires.len() >= MOST_WIRES {
+        if wires.len() >= MOST_CONNECTIONS {
             return Err(Unflat::TooLarge);
         }
         let from = flat_port(alloc, from)?;
@@ -141,7 +136,7 @@ fn put_flat_wire<'n>(
 {
     let around = copied_scope(alloc, scope)?;
     let from = follow(alloc, names, LEVELS, around, &wire.from)?;
-    let room = MOST_WIRES - wires.len();
+    let room = MOST_CONNECTIONS - wires.len();
     let Some(to) = reached(alloc, names, ways, guide, scope, &wire.to, room)? else {
         drop(from);
         return Err(Unflat::TooLarge);

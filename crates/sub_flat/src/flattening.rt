@@ -6,14 +6,12 @@ ghost use Rattle.sub_flat.specs.FlatReading.{AnswersFlat, JudgesParts, refusal_o
 use crate::fault::Unflat;
 use crate::flat::{FlatParts, flat_parts, flat_system};
 use crate::judge::judge;
+use model_rules::Rule;
 use nest_names::NestNames;
 use nest_text::{Nest, NestFault};
 use std::alloc::Global;
 use unit_plain::copy_system;
 use unit_tree::System;
-
-/// Rule 30: the flat system is too large.
-const FLAT_RULE: u8 = 30;
 
 /// The refusal of a nest whose flat system isn't there, at the line `main`.
 fn refusal(main_line: u32, why: Unflat) -> NestFault
@@ -22,7 +20,7 @@ fn refusal(main_line: u32, why: Unflat) -> NestFault
     match why {
         Unflat::TooLarge => NestFault::Line {
             line: main_line,
-            rule: FLAT_RULE,
+            rule: Rule::FlatSystemFits.number(),
         },
         Unflat::NoMemory => NestFault::NoMemory,
     }

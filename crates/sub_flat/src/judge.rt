@@ -1,12 +1,13 @@
 //! What the rules ask of groups.
 ghost use Rattle.std.specs.Prelude.{◌≡◌, ℕ, ◌↔◌, ◌≤◌, ◌<◌, IfOk, IsTrue, length, slice_get, if◌then◌else◌, Some};
-ghost use Rattle.sub_flat.specs.FlatReading.{IsLeast, JudgesLeast, JudgesNest, MissesAt, Refuses, is_less, rule_number};
+ghost use Rattle.sub_flat.specs.FlatReading.{IsLeast, JudgesLeast, JudgesNest, MissesAt, Refuses, is_less, rule_number, rule_of};
 ghost use Rattle.sub_flat.specs.NestRules.{AtGroup, BreaksGroup};
 ghost use Rattle.sub_flat.specs.Searching.{IsNesting};
 
 use crate::asks::{is_misnamed, main_misses_port, misses_port};
 use crate::cycles::{Nesting, contains_itself};
 use fixed_words::NoMemory;
+use model_rules::Rule;
 use nest_names::{GroupNames, NestNames};
 use nest_text::NestFault;
 use std::alloc::Global;
@@ -23,14 +24,22 @@ pub enum GroupRule {
 }
 
 impl GroupRule {
+    /// The rule among all.
+    fn rule(self) -> Rule
+        ensures { result ≡ rule_of self }
+    {
+        match self {
+            GroupRule::Names => Rule::GroupIsNamed,
+            GroupRule::Nesting => Rule::GroupsEnd,
+            GroupRule::Ports => Rule::GroupPortsAreThere,
+        }
+    }
+
+    /// Its number in a refusal.
     fn number(self) -> u8
         ensures { result ≡ rule_number self }
     {
-        match self {
-            GroupRule::Names => 27,
-            GroupRule::Nesting => 28,
-            GroupRule::Ports => 29,
-        }
+        self.rule().number()
     }
 }
 

@@ -1,6 +1,7 @@
 -- Seconds as ticks: a tick is ten to the power of minus the resolution, in seconds.
 use Rattle.std.specs.Prelude.{ℕ, ◌≤◌, ⊤, List, ◌*◌, ◌/◌, ◌%◌, ◌^◌, ◌==◌, not, ◌&&◌, nat_lt, if◌then◌else◌, unsigned_abs, Option, Some, None, Result, Ok, Err}
 use Rattle.std.specs.Int.{is_negative}
+use Rattle.model_rules.specs.Limits.{decimals_limit}
 use Rattle.fixed_words.specs.Texts.{fixed_text}
 use Rattle.fixed_words.specs.declared.types.Literal.{Literal}
 use Rattle.fixed_words.specs.declared.types.Literal.TheVariants as literal
@@ -10,7 +11,7 @@ use Rattle.super_time.specs.declared.seconds.SecondsFault.TheVariants.{NotDecima
 -- A literal has at most nine decimals.
 abbrev pub AreDecimalsOf : Literal → Type 0
 AreDecimalsOf (literal.Truth told) = ⊤
-AreDecimalsOf (literal.Number number decimals) = decimals ≤ 9
+AreDecimalsOf (literal.Number number decimals) = decimals ≤ decimals_limit
 
 -- A literal that is no truth value and not negative is a number of seconds: so many units of ten to the power of
 -- minus its decimals. This is it in ticks, where it is a whole number of them.

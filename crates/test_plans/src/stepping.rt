@@ -2,11 +2,9 @@
 ghost use Rattle.std.specs.Prelude.{◌≡◌, true, false};
 ghost use Rattle.trace_core.specs.Runs.{AreCellsFull, is_ended};
 
+use model_rules::MOST_INSTANCES;
 use std::test::Fail;
 use trace_core::{Phase, Run, Settle};
-
-/// No plan has more instances.
-const MOST_INSTANCES: u32 = 64;
 
 /// Makes the step of an instance, where it is wanted.
 pub fn step(run: &mut Run, instance: u32) {
@@ -17,9 +15,9 @@ pub fn step(run: &mut Run, instance: u32) {
 
 /// Makes all steps that are wanted, from the first instance on, or from the last one.
 fn step_all(run: &mut Run, last_first: bool) {
-    for turn in 0..MOST_INSTANCES {
+    for turn in 0..MOST_INSTANCES as u32 {
         let instance = if last_first {
-            MOST_INSTANCES - 1 - turn
+            MOST_INSTANCES as u32 - 1 - turn
         } else {
             turn
         };
@@ -35,7 +33,7 @@ fn can_settle(run: &Run) -> bool
     if let Phase::Ended(_) = run.phase() {
         return false;
     }
-    for instance in 0..MOST_INSTANCES {
+    for instance in 0..MOST_INSTANCES as u32 {
         if run.wants(instance).is_some() {
             return false;
         }

@@ -8,14 +8,12 @@ ghost use Rattle.wire_graph.specs.Faults.{IsRightFault};
 ghost use Rattle.wire_graph.specs.declared.fault.OrderFault.TheVariants.{Loop};
 
 use fixed_words::{List, NoMemory};
+use model_rules::Rule;
 use std::alloc::Global;
 use unit_check::{CheckFault, check, line_of_output};
 use unit_text::{ReadText, TextFault, read_system};
 use unit_tree::{Checked, Order, System};
 use wire_graph::{OrderFault, order, output_names};
-
-/// The rule of cycles.
-const CYCLE_RULE: u8 = 15;
 
 /// A text that keeps all rules: its system, for each canonical line of it the number of the line of the text that it came from,
 /// and an order of its outputs with the routes of all ports.
@@ -82,7 +80,7 @@ fn accept_checked(
         }),
         Err(OrderFault::Loop { instance, output }) => {
             match line_of_cycle(alloc, &checked, instance, output) {
-                Ok(item) => Err(at_source(lines.as_slice(), item, CYCLE_RULE)),
+                Ok(item) => Err(at_source(lines.as_slice(), item, Rule::OutputsHaveOrder.number())),
                 Err(_) => Err(TextFault::NoMemory),
             }
         }

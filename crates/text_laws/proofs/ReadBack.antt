@@ -7,7 +7,8 @@ use Rattle.unit_tree.specs.Canonical.{canonical_parts, canonical_forms, canonica
 use Rattle.unit_tree.specs.LineForms.{HasForm, is_of_version_2, tail_of}
 use Rattle.unit_tree.specs.Lines.{code_of, source_lines}
 use Rattle.unit_tree.specs.Printable.{IsInRange, IsPrintable, is_writable}
-use Rattle.unit_tree.specs.Texts.{BeginsVersion2, HasFormIn, HaveForms, line_limit}
+use Rattle.model_rules.specs.Limits.{line_limit}
+use Rattle.unit_tree.specs.Texts.{BeginsVersion2, HasFormIn, HaveForms}
 use Rattle.unit_tree.specs.Tokens.{Spells}
 use Rattle.unit_tree.specs.declared.line_form.LineForm.{LineForm}
 use Rattle.unit_tree.specs.declared.line_form.LineForm.TheVariants as form

@@ -15,7 +15,8 @@ use Rattle.unit_tree.specs.LineForms.{HasForm, is_of_version_2, tail_of}
 use Rattle.unit_tree.specs.Lines.{lines_of, source_lines, size_of, without_return, code_of, is_blank_line}
 use Rattle.unit_tree.specs.Parts.{Part, part_forms, text_forms, system_of}
 use Rattle.unit_tree.specs.Printable.{IsInRange, is_event_port, is_writable, names_on, step_depth}
-use Rattle.unit_tree.specs.Texts.{BeginsVersion2, HasFormIn, HaveForms, line_limit}
+use Rattle.model_rules.specs.Limits.{line_limit}
+use Rattle.unit_tree.specs.Texts.{BeginsVersion2, HasFormIn, HaveForms}
 use Rattle.unit_tree.specs.Tokens.{IsWord, IsName}
 use Rattle.unit_tree.specs.declared.line_form.LineForm.{LineForm}
 use Rattle.unit_tree.specs.declared.line_form.LineForm.TheVariants as form

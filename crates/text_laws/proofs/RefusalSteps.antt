@@ -5,7 +5,8 @@ use Rattle.std.specs.List.{list_all}
 use Rattle.std.proofs.lemmas.Bool.{cases_lt}
 use Rattle.std.proofs.lemmas.List.{append-nil}
 use Rattle.unit_tree.specs.Lines.{is_blank_line, has_forbidden_byte}
-use Rattle.unit_tree.specs.Texts.{line_limit, HasNoForm, IsMisplaced, LacksHeader, LineBreaks, Breaks, IsFirstBroken}
+use Rattle.model_rules.specs.Limits.{line_limit}
+use Rattle.unit_tree.specs.Texts.{HasNoForm, IsMisplaced, LacksHeader, LineBreaks, Breaks, IsFirstBroken}
 
 -- A line that breaks a rule breaks one of five.
 by_rule : {P : Type 0} (text : List (List ℕ)) (rule : ℕ) (before : List (List ℕ)) (line : List ℕ) → LineBreaks text rule before line

@@ -3,6 +3,7 @@ use Rattle.std.specs.Prelude.{◌≡◌, ℕ, suc, zero, ◌^◌, pos, Bool, tru
 use Rattle.std.specs.Prelude.{if◌then◌else◌, option_and_then}
 use Rattle.std.specs.Borrow.{Bor}
 use Rattle.std.specs.Str.{bytes_eq}
+use Rattle.model_rules.specs.Limits.{decimals_limit, writing_limit}
 use Rattle.unit_tree.specs.Phrases.{Level, Whole, Primary, unary_level, binary_level, left_level, right_level, allows, Writes}
 use Rattle.unit_tree.specs.Tokens.{symbol_text}
 use Rattle.unit_tree.specs.declared.expr.BinOp.{BinOp}
@@ -93,7 +94,7 @@ name_at (_ ∷ rest) = None
 -- The number of decimals of a conversion to fixed point, and the tokens behind it.
 abbrev pub decimals_at : List Token → Option (ℕ × List Token)
 decimals_at [] = None
-decimals_at (token.Number digits decimals ∷ rest) = if (decimals == 0) && nat_le digits 9 then Some (digits, rest) else None
+decimals_at (token.Number digits decimals ∷ rest) = if (decimals == 0) && nat_le digits decimals_limit then Some (digits, rest) else None
 decimals_at (_ ∷ rest) = None
 
 -- ---- What begins with a token of its own: `deeper` reads the parts, which are one level of nesting deeper
@@ -256,8 +257,8 @@ within deeper (suc levels_left) asked tokens = do
 
 -- An expression whose parts are nested at most so many levels deep.
 unfoldable pub read : ℕ → Reader
-read zero asked tokens = within (λ level inner. None) 9 asked tokens
-read (suc budget) asked tokens = within (read budget) 9 asked tokens
+read zero asked tokens = within (λ level inner. None) decimals_limit asked tokens
+read (suc budget) asked tokens = within (read budget) decimals_limit asked tokens
 
 -- A part that is one level of nesting deeper.
 abbrev pub deeper : ℕ → Reader
@@ -272,4 +273,4 @@ whole_tree (Some (tree, level, first ∷ rest)) = None
 
 -- The expression that the tokens write.
 unfoldable pub read_expression : List Token → Option Expr
-read_expression tokens = whole_tree (read 64 Whole tokens)
+read_expression tokens = whole_tree (read writing_limit Whole tokens)

@@ -1,6 +1,7 @@
 -- Reading of a line from its tokens: what its answer says, and how it is read.
 use Rattle.std.specs.Prelude.{ℕ, ◌^◌, pos, Bool, true, false, ◌&&◌, ◌==◌, nat_le, nat_lt, List, [], ◌∷◌, ◌++◌, codes, Option, Some, None, if◌then◌else◌}
 use Rattle.std.specs.Str.{bytes_eq}
+use Rattle.model_rules.specs.Limits.{rows_limit, turn_limit, zero_limit}
 use Rattle.fixed_words.specs.Literals.{with_sign}
 use Rattle.fixed_words.specs.Types.{is_word_of}
 use Rattle.fixed_words.specs.declared.types.Literal.{Literal}
@@ -212,7 +213,7 @@ accept_form tokens = do
 
 unfoldable pub repeat_form : List Token → Option LineForm
 repeat_form tokens = do
-  count ← count_at 1 1000 tokens
+  count ← count_at 1 turn_limit tokens
   last (form.Repeat count.0) count.1
 
 unfoldable pub instance_form : List Token → Option LineForm
@@ -241,12 +242,12 @@ longest_form tokens = do
 
 unfoldable pub zero_form : List Token → Option LineForm
 zero_form tokens = do
-  count ← count_at 0 10000 tokens
+  count ← count_at 0 zero_limit tokens
   last (form.Zero count.0) count.1
 
 unfoldable pub rows_form : List Token → Option LineForm
 rows_form tokens = do
-  count ← count_at 1 100000 tokens
+  count ← count_at 1 rows_limit tokens
   last (form.Rows count.0) count.1
 
 unfoldable pub sample_form : List Token → Option LineForm

@@ -1,7 +1,7 @@
 -- What the bytes of a line tell, before its form is read.
 use Rattle.std.specs.Prelude.{◌≡◌, ◌≤◌, ◌<◌, ◌⊎◌, ℕ, List, length, true, false}
 use Rattle.unit_tree.specs.Lines.{is_blank_line, has_forbidden_byte}
-use Rattle.unit_tree.specs.Texts.{line_limit}
+use Rattle.model_rules.specs.Limits.{line_limit}
 use Rattle.text_lines.specs.declared.lines.Seen.{Seen}
 use Rattle.text_lines.specs.declared.lines.Seen.TheVariants as told
 

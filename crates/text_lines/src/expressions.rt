@@ -5,16 +5,11 @@ ghost use Rattle.text_lines.specs.Expressions.{GivesExpression, GivesInfix, Give
 ghost use Rattle.unit_tree.specs.Levels.{grammar_level};
 
 use fixed_words::{Boxed, List};
+use model_rules::{DEEPEST_WRITING, MOST_DECIMALS};
 use std::alloc::Global;
 use text_tokens::Unread;
 use unit_tree::levels::{Level, allows, binary_level, left_level, right_level, unary_level};
 use unit_tree::{BinOp, Expr, Keyword, Name, Symbol, Token, UnOp};
-
-/// How many levels deep the parts of an expression may be nested.
-const DEEPEST: u8 = 64;
-
-/// The most decimals of a number.
-const MOST_DECIMALS: u8 = 9;
 
 /// The first number that no word of 64 bits is.
 const WORD_END: u64 = 1 << 63;
@@ -367,7 +362,7 @@ fn read(
 pub(crate) fn whole_expression(alloc: Global, tokens: &[Token]) -> Result<Expr, Unread>
     ensures { Gives result (read_expression tokens.now) }
 {
-    let (tree, _, rest) = read(alloc, DEEPEST, Level::Whole, tokens)?;
+    let (tree, _, rest) = read(alloc, DEEPEST_WRITING, Level::Whole, tokens)?;
     match rest {
         [] => Ok(tree),
         _ => Err(Unread::NoForm),

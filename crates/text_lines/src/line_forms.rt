@@ -9,6 +9,7 @@ ghost use Rattle.text_lines.specs.LineReading.{FormIs, LineHas, count_at, unsign
 use crate::expressions::{after_symbol, decimals_at, name_at, whole_expression};
 use crate::lines::code;
 use fixed_words::{List, Literal, Ty, signed_word};
+use model_rules::{MOST_ROWS, MOST_TURNS, MOST_ZERO_STEPS};
 use std::alloc::Global;
 use text_tokens::{Unread, tokens};
 use unit_tree::{
@@ -21,15 +22,6 @@ const WORD_END: u64 = 1 << 63;
 
 /// The newest version of the language.
 const NEWEST_VERSION: u64 = 2;
-
-/// The most times that a `repeat` may run.
-const MOST_TIMES: u32 = 1_000;
-
-/// The most steps of length zero in a row that a text may allow.
-const MOST_ZERO_STEPS: u32 = 10_000;
-
-/// The most rows that a text may ask for.
-const MOST_ROWS: u32 = 100_000;
 
 /// The names of the integer types from 0 up, and of fixed point.
 const UINT8: &[u8] = b"UInt8";
@@ -387,7 +379,7 @@ fn accept(alloc: Global, tokens: &[Token]) -> Result<LineForm, Unread>
 fn repeat(tokens: &[Token]) -> Result<LineForm, Unread>
     ensures { Gives result (repeat_form tokens.now) }
 {
-    let (count, rest) = count_at(1, MOST_TIMES, tokens)?;
+    let (count, rest) = count_at(1, MOST_TURNS, tokens)?;
     last(LineForm::Repeat(count), rest)
 }
 

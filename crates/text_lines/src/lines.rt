@@ -5,20 +5,13 @@ ghost use Rattle.unit_tree.specs.Lines.{code_of, without_return, is_code_byte, i
 ghost use Rattle.unit_tree.specs.Tokens.{is_blank};
 ghost use Rattle.text_lines.specs.Seen.{TellsOf};
 
+use model_rules::{LONGEST_LINE, Rule};
+
 /// The byte that begins a comment.
 const COMMENT: u8 = b'#';
 
 /// The byte that may stand before a line's end, and belongs to it.
 const RETURN: u8 = b'\r';
-
-/// The most bytes of a line without its end.
-pub const LONGEST_LINE: usize = 1000;
-
-/// Rule 1: a byte before the comment that no code may hold.
-const BYTE_RULE: u8 = 1;
-
-/// Rule 3: a line that is too long.
-pub const LENGTH_RULE: u8 = 3;
 
 /// What the bytes of a line tell.
 #[derive(Clone, Copy, Debug, PartialEq, Eq)]
@@ -90,9 +83,9 @@ pub fn look_at(line: &[u8]) -> Seen
     ensures { TellsOf line.now result }
 {
     if has_forbidden_byte(line) {
-        Seen::Broken(BYTE_RULE)
+        Seen::Broken(Rule::BytesAreAllowed.number())
     } else if line.len() > LONGEST_LINE {
-        Seen::Broken(LENGTH_RULE)
+        Seen::Broken(Rule::LineFits.number())
     } else if is_blank_line(line) {
         Seen::Blank
     } else {

@@ -5,6 +5,7 @@ use Rattle.std.specs.Borrow.{Bor}
 use Rattle.std.specs.List.{prefix_len}
 use Rattle.std.specs.Str.{bytes_eq}
 use Rattle.std.specs.Option.{option_or}
+use Rattle.model_rules.specs.Limits.{decimals_limit, name_limit}
 use Rattle.unit_tree.specs.Tokens.{is_digit, is_letter, is_word_byte, keyword_text, symbol_text, number_from, begins_with, Spells}
 use Rattle.unit_tree.specs.declared.token.Keyword.{Keyword}
 use Rattle.unit_tree.specs.declared.token.Keyword.TheVariants as word
@@ -91,7 +92,7 @@ symbol_of text = find (λ symbol. bytes_eq (symbol_text symbol) text) (symbols_l
 -- The token of a word that may be a keyword: if it is none, a name of at most 32 bytes.
 abbrev pub named : List ℕ → Option Keyword → Option Token
 named text (Some keyword) = Some (token.Keyword keyword)
-named text None = if nat_lt 32 (length text) then None else Some (token.Name text)
+named text None = if nat_lt name_limit (length text) then None else Some (token.Name text)
 
 abbrev pub word_token : List ℕ → Option Token
 word_token text = named text (keyword_of text)
@@ -121,7 +122,7 @@ fraction_of (byte ∷ bytes) =
 -- The number with these digits before and behind its point.
 unfoldable pub number_token : List ℕ → List ℕ → Option Token
 number_token whole fraction =
-    if nat_lt 9 (length fraction) then None else option_and_then
+    if nat_lt decimals_limit (length fraction) then None else option_and_then
     (λ before. option_and_then (λ digits. Some (token.Number digits (length fraction))) (bounded_number before fraction)) (bounded_number 0 whole)
 
 -- The number at the front, as far as it goes.

@@ -5,14 +5,9 @@ ghost use Rattle.text_tokens.specs.Scanning.{Gives, GivesFront, ReadsAs, keyword
 
 use crate::fault::Unread;
 use fixed_words::List;
+use model_rules::{LONGEST_NAME, MOST_DECIMALS};
 use std::alloc::Global;
 use unit_tree::{Keyword, Symbol, Token, begins_with_word_byte, is_letter, is_word_byte};
-
-/// The most bytes that a name may have.
-const LONGEST_NAME: usize = 32;
-
-/// The most digits behind a point.
-const MOST_DECIMALS: usize = 9;
 
 /// The greatest number that a token may be.
 const GREATEST_NUMBER: u64 = 1 << 63;
@@ -207,7 +202,7 @@ fn fraction_of(bytes: &[u8]) -> (&[u8], &[u8])
 fn number_token(whole: &[u8], fraction: &[u8]) -> Result<Token, Unread>
     ensures { Gives result (number_token whole.now fraction.now) }
 {
-    if fraction.len() > MOST_DECIMALS {
+    if fraction.len() > MOST_DECIMALS as usize {
         return Err(Unread::NoForm);
     }
     let before = bounded_number(0, whole)?;

@@ -1,6 +1,7 @@
 -- What a plan keeps.
 use Rattle.std.specs.Prelude.{◌≡◌, ◌≤◌, ◌^◌, map}
 use Rattle.std.specs.List.{AllZip}
+use Rattle.model_rules.specs.Limits.{decimals_limit}
 use Rattle.trace_csv.specs.Columns.{columns_of}
 use Rattle.trace_plan.specs.Plans.{Planned, IsBounded, lowest_words, highest_words, limited_in}
 use Rattle.trace_plan.specs.declared.fitting.Fitted.{Fitted}
@@ -21,14 +22,14 @@ pub record IsFitted (member : Member) (fitted : Fitted) : Type 0 where
   pub image : IsImageOf member.component fitted.image.value
   pub factor : fitted.factor ≡ member.factor
   pub least : 1 ≤ fitted.factor
-  pub coarsest : fitted.factor ≤ 10 ^ 9
+  pub coarsest : fitted.factor ≤ 10 ^ decimals_limit
   pub low : fitted.low.items ≡ lowest_words member
   pub high : fitted.high.items ≡ highest_words member
 
 -- The numbers are those of a system's run, in its ticks.
 pub record AreNumbersOf (system : System) (run : Composition) (numbers : Numbers) : Type 0 where
   pub resolution : numbers.resolution ≡ resolution_of system
-  pub decimals : numbers.resolution ≤ 9
+  pub decimals : numbers.resolution ≤ decimals_limit
   pub stop : numbers.stop ≡ run.stop
   pub longest : numbers.longest ≡ run.longest
   pub zeros : numbers.zero_budget ≡ run.zero_budget

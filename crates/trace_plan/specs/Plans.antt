@@ -1,5 +1,6 @@
 -- Plans: what contracts see of one.
 use Rattle.std.specs.Prelude.{◌≡◌, ◌≤◌, ◌^◌, ℕ, suc, Bool, ℤ, List, [], ◌∷◌, length, map, if◌then◌else◌, is_some, Some, slice_get}
+use Rattle.model_rules.specs.Limits.{instance_limit, rows_limit, zero_limit}
 use Rattle.fixed_words.specs.Types.{lowest, highest}
 use Rattle.unit_exec.specs.Images.{Compiled, IsImageOf}
 use Rattle.unit_tree.specs.Compositions.{Member, Composition}
@@ -14,11 +15,11 @@ pub record Planned : Type 0 where
 pub record IsBounded (run : Composition) : Type 0 where
   pub stop : run.stop ≤ 10 ^ 15
   pub longest : run.longest ≤ 10 ^ 15
-  pub zeros : run.zero_budget ≤ 10000
+  pub zeros : run.zero_budget ≤ zero_limit
   pub some_row : 1 ≤ run.row_budget
-  pub rows : run.row_budget ≤ 100000
+  pub rows : run.row_budget ≤ rows_limit
   pub some_member : 1 ≤ length run.members
-  pub members : length run.members ≤ 64
+  pub members : length run.members ≤ instance_limit
 
 -- The fact holds of the member that an instance's number tells.
 abbrev pub ForMember : Composition → ℕ → (Member → Type 0) → Type 0

@@ -2,6 +2,7 @@
 use Rattle.std.specs.Prelude.{◌≡◌, Bool, ℕ, ◌+◌, ◌≤◌, ◌<◌, ◌^◌, List, [], ◌∷◌, map, length, Option, Some, None, slice_get}
 use Rattle.std.specs.List.{position_or_len}
 use Rattle.std.specs.Str.{bytes_eq}
+use Rattle.model_rules.specs.Limits.{instance_limit, output_limit}
 use Rattle.fixed_words.specs.declared.types.Ty.{Ty}
 use Rattle.trace_csv.specs.Columns.{instance_number, output_number}
 use Rattle.unit_tree.specs.Compositions.{place_of}
@@ -29,7 +30,7 @@ starts_from system count (instance ∷ instances) =
 
 -- Each instance has at most 32 outputs.
 abbrev pub FewOutputs : System → Type 0
-FewOutputs system = (instance : Instance) → output_count (unit_of_instance system instance) ≤ 32
+FewOutputs system = (instance : Instance) → output_count (unit_of_instance system instance) ≤ output_limit
 
 -- The port names an output of the system: its instance is there with a unit, and its place is that many behind the first one
 -- of its instance.
@@ -42,8 +43,8 @@ pub record IsPlaced (system : System) (starts : List ℕ) (port : PortName) : Ty
   pub is_start : slice_get starts (instance_number system port) ≡ Some start
   pub number : output_number system port ≡ position_or_len (λ output. bytes_eq output.name port.port) unit.outputs
   pub place : place_of system port ≡ start + output_number system port
-  pub few_instances : instance_number system port < 64
-  pub few_outputs : output_number system port < 32
+  pub few_instances : instance_number system port < instance_limit
+  pub few_outputs : output_number system port < output_limit
   pub few_places : place_of system port < 2 ^ 11
 
 -- The column of an output of a system without event ports.

@@ -8,6 +8,7 @@ ghost use Rattle.unit_tree.specs.WellFormed.{unit_resolution, resolution_of};
 
 use fixed_words::{Literal, ten_to_the};
 use super_time::read_seconds;
+use model_rules::MOST_CELLS;
 use unit_tree::{Checked, System, Unit};
 
 /// The resolution of a system, and its other numbers: where the run ends and its longest step, in ticks, and its two budgets.
@@ -81,7 +82,7 @@ fn default_rows(version: u8, instances: u64) -> u64
     ensures { result ≡ default_rows version instances }
 {
     let most: u64 = if version == 2 { 10_000 } else { 100_000 };
-    most.min(1_000_000 / instances)
+    most.min(u64::from(MOST_CELLS) / instances)
 }
 
 /// How many rows the trace has at most.

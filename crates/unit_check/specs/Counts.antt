@@ -1,6 +1,7 @@
 -- Rule 16: how many of a kind there may be, by the place of a line alone.
 use Rattle.std.specs.Prelude.{ℕ, ◌+◌, ◌-◌, ◌*◌, nat_lt, nat_le, Bool, false, length, take, Option, Some, None}
 use Rattle.std.specs.List.{flat_map}
+use Rattle.model_rules.specs.Limits.{connection_limit, input_limit, instance_limit, local_limit, output_limit, param_limit, sample_limit, state_limit, unit_limit}
 use Rattle.unit_tree.specs.Plain.{plain_wires}
 use Rattle.unit_tree.specs.Sites.{Scope, TopScope, UnitScope, StepScope, InstanceScope}
 use Rattle.unit_tree.specs.declared.line_form.LineForm.{LineForm}
@@ -20,26 +21,26 @@ is_from place (Some first) = nat_le first place
 -- Too many in a unit, by the place of a line among those that declare names: these are in the order of the lists, and an
 -- event port counts as two.
 abbrev pub exceeds_in_unit : Unit → ℕ → LineForm → Bool
-exceeds_in_unit unit place (form.Param param) = nat_lt 32 (place + 1)
-exceeds_in_unit unit place (form.State state) = nat_lt 64 (place - length unit.params + 1)
-exceeds_in_unit unit place (form.Local local) = nat_lt 64 (place - length unit.params - length unit.states + 1)
-exceeds_in_unit unit place (form.Input input) = nat_lt 32 (place - length unit.params - length unit.states - length unit.locals + 1)
+exceeds_in_unit unit place (form.Param param) = nat_lt param_limit (place + 1)
+exceeds_in_unit unit place (form.State state) = nat_lt state_limit (place - length unit.params + 1)
+exceeds_in_unit unit place (form.Local local) = nat_lt local_limit (place - length unit.params - length unit.states + 1)
+exceeds_in_unit unit place (form.Input input) = nat_lt input_limit (place - length unit.params - length unit.states - length unit.locals + 1)
 exceeds_in_unit unit place (form.EventInput event) =
-    nat_lt 32 (length unit.inputs + 2 * (place - length unit.params - length unit.states - length unit.locals - length unit.inputs + 1))
+    nat_lt input_limit (length unit.inputs + 2 * (place - length unit.params - length unit.states - length unit.locals - length unit.inputs + 1))
 exceeds_in_unit unit place (form.Output output) =
-    nat_lt 32 (place - length unit.params - length unit.states - length unit.locals - length unit.inputs - length unit.events_in + 1)
+    nat_lt output_limit (place - length unit.params - length unit.states - length unit.locals - length unit.inputs - length unit.events_in + 1)
 exceeds_in_unit unit place (form.EventOutput event) =
-    nat_lt 32
+    nat_lt output_limit
     (length unit.outputs
     + 2 * (place - length unit.params - length unit.states - length unit.locals - length unit.inputs - length unit.events_in - length unit.outputs + 1))
 exceeds_in_unit unit place line = false
 
 -- Too many outside of blocks.
 abbrev pub exceeds_on_top : System → ℕ → LineForm → Bool
-exceeds_on_top system place (form.Unit name) = nat_lt 64 (place + 1)
-exceeds_on_top system place (form.Instance name unit) = nat_lt 64 (place + 1)
-exceeds_on_top system place (form.Connect wire) = nat_lt 2048 (plain_wire_count system (place + 1))
-exceeds_on_top system place (form.Sample port) = nat_lt 2048 (place + 1)
+exceeds_on_top system place (form.Unit name) = nat_lt unit_limit (place + 1)
+exceeds_on_top system place (form.Instance name unit) = nat_lt instance_limit (place + 1)
+exceeds_on_top system place (form.Connect wire) = nat_lt connection_limit (plain_wire_count system (place + 1))
+exceeds_on_top system place (form.Sample port) = nat_lt sample_limit (place + 1)
 exceeds_on_top system place line = false
 
 -- Rule 16: there are too many of the line's kind, up to the line.

@@ -1,5 +1,6 @@
 -- The rules on depth and cost, by the lines of the source.
 use Rattle.std.specs.Prelude.{Bool, false, not, ◌||◌, nat_le, nat_lt, Option, Some, None}
+use Rattle.model_rules.specs.Limits.{cost_limit, depth_limit}
 use Rattle.unit_tree.specs.Costs.{expression_call_cost}
 use Rattle.unit_tree.specs.Names.{depth_of, expression_on}
 use Rattle.unit_tree.specs.Plain.{presence_of, word_expression_of}
@@ -11,7 +12,7 @@ use Rattle.unit_tree.specs.declared.line_form.LineForm.TheVariants as form
 
 -- An expression is deeper than 32.
 abbrev pub is_deeper : Expr → Bool
-is_deeper value = not (nat_le (depth_of value) 32)
+is_deeper value = not (nat_le (depth_of value) depth_limit)
 
 abbrev pub is_given_deeper : Option Expr → Bool
 is_given_deeper None = false
@@ -24,12 +25,12 @@ is_deep_at scope line = is_given_deeper (expression_on line)
 
 -- A call costs more than 100,000.
 abbrev pub is_dearer : Expr → Bool
-is_dearer value = nat_lt 100000 (expression_call_cost value)
+is_dearer value = nat_lt cost_limit (expression_call_cost value)
 
 -- Rule 18: a call costs too much.
 abbrev pub is_dear_at : Scope → LineForm → Bool
 is_dear_at (UnitScope unit) (form.Output output) = is_dearer output.value
 is_dear_at (UnitScope unit) (form.EventOutput event) = is_dearer (presence_of event.value) || is_dearer (word_expression_of event.ty event.value)
 is_dear_at (UnitScope unit) (form.Max value) = is_dearer value
-is_dear_at (UnitScope unit) form.Step = nat_lt 100000 (step_cost unit.step)
+is_dear_at (UnitScope unit) form.Step = nat_lt cost_limit (step_cost unit.step)
 is_dear_at scope line = false

@@ -13,6 +13,7 @@ use Rattle.unit_tree.specs.Names.{unit_of_instance, param_named}
 use Rattle.unit_tree.specs.Sites.{Scope, InstanceScope}
 use Rattle.unit_tree.specs.WellFormed.{mistakes_kind, on_literal, is_misformed, is_beyond, is_length, resolution_of}
 use Rattle.std.specs.Prelude.{◌==◌, ◌||◌}
+use Rattle.model_rules.specs.Limits.{decimals_limit}
 use Rattle.unit_tree.specs.declared.line_form.LineForm.{LineForm}
 use Rattle.unit_tree.specs.declared.line_form.LineForm.TheVariants as form
 use Rattle.unit_tree.specs.declared.system.Instance.{Instance}
@@ -21,7 +22,7 @@ use Rattle.unit_tree.specs.declared.system.System.{System}
 -- ---- Literals
 
 abbrev pub has_few_decimals : Ty → Bool
-has_few_decimals (types.Fixed decimals) = nat_le decimals 9
+has_few_decimals (types.Fixed decimals) = nat_le decimals decimals_limit
 has_few_decimals ty = true
 
 -- The word of a literal, or why it has none.
@@ -52,11 +53,11 @@ is_out_of_range_at system scope line = on_literal is_beyond (literal_read system
 
 abbrev pub has_few_places : Literal → Bool
 has_few_places (literal.Truth told) = true
-has_few_places (literal.Number number decimals) = nat_le decimals 9
+has_few_places (literal.Number number decimals) = nat_le decimals decimals_limit
 
 -- Seconds that are a whole number of ticks of a resolution, at least so many and at most 10^15.
 abbrev pub is_length_read : ℕ → ℕ → Literal → Bool
-is_length_read least resolution seconds = (nat_le resolution 9 && has_few_places seconds) && is_length least (seconds_of resolution seconds)
+is_length_read least resolution seconds = (nat_le resolution decimals_limit && has_few_places seconds) && is_length least (seconds_of resolution seconds)
 
 -- Rule 20: `stop` or `longest` is no whole number of ticks, or not in its range.
 abbrev pub mistimes_at : System → LineForm → Bool

@@ -1,5 +1,8 @@
 -- The rules that are judged, each with its test by the place of a line.
 use Rattle.std.specs.Prelude.{◌≡◌, ℕ, Bool, List, [], ◌∷◌, map, Option, Some, Result, Ok, Err, ⊤}
+use Rattle.model_rules.specs.Numbers as numbers
+use Rattle.model_rules.specs.declared.rule.Rule.{Rule}
+use Rattle.model_rules.specs.declared.rule.Rule.TheVariants as rules
 use Rattle.unit_check.specs.Counts.{exceeds_at}
 use Rattle.unit_check.specs.Measures.{is_deep_at, is_dear_at}
 use Rattle.unit_check.specs.Places.{redeclares_at, connects_again_at, repeats_at}
@@ -18,24 +21,28 @@ use Rattle.unit_tree.specs.WellFormed.{exceeds, has_deep_expression, costs_too_m
 use Rattle.unit_tree.specs.WellFormed.{repeats_itself, refusal_of}
 use Rattle.unit_tree.specs.declared.system.System.{System}
 
--- The number of a rule.
+-- The rule among all.
+abbrev pub rule_of : SystemRule → Rule
+rule_of by.NamesDiffer = rules.NamesDiffer
+rule_of by.NamesAreDeclared = rules.NamesAreDeclared
+rule_of by.KindsFit = rules.KindsFit
+rule_of by.LiteralsFit = rules.LiteralsFit
+rule_of by.NeedsAreNamed = rules.NeedsAreNamed
+rule_of by.InputsConnectOnce = rules.InputsConnectOnce
+rule_of by.EndsMatch = rules.EndsMatch
+rule_of by.CountsFit = rules.CountsFit
+rule_of by.DepthFits = rules.DepthFits
+rule_of by.CostFits = rules.CostFits
+rule_of by.StopIsThere = rules.StopIsThere
+rule_of by.TimesAreTicks = rules.TimesAreTicks
+rule_of by.RowsFit = rules.RowsFit
+rule_of by.TargetsMayChange = rules.TargetsMayChange
+rule_of by.InstanceIsThere = rules.InstanceIsThere
+rule_of by.NothingRepeats = rules.NothingRepeats
+
+-- Its number in a refusal.
 abbrev pub number_of : SystemRule → ℕ
-number_of by.NamesDiffer = 8
-number_of by.NamesAreDeclared = 9
-number_of by.KindsFit = 10
-number_of by.LiteralsFit = 11
-number_of by.NeedsAreNamed = 12
-number_of by.InputsConnectOnce = 13
-number_of by.EndsMatch = 14
-number_of by.CountsFit = 16
-number_of by.DepthFits = 17
-number_of by.CostFits = 18
-number_of by.StopIsThere = 19
-number_of by.TimesAreTicks = 20
-number_of by.RowsFit = 21
-number_of by.TargetsMayChange = 22
-number_of by.InstanceIsThere = 23
-number_of by.NothingRepeats = 24
+number_of some = numbers.number_of (rule_of some)
 
 -- The test of a line that breaks the rule, as `WellFormed` has it under the number of the rule.
 unfoldable pub breaks_of : SystemRule → System → Site → Bool

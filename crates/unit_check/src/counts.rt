@@ -5,6 +5,10 @@ ghost use Rattle.unit_check.specs.Walks.{scope_of, form_of};
 
 use crate::tables::SystemTables;
 use crate::walk::{FormRef, ScopeRef};
+use model_rules::{
+    MOST_INPUTS, MOST_INSTANCES, MOST_LOCALS, MOST_OUTPUTS, MOST_PARAMS, MOST_SAMPLES, MOST_STATES,
+    MOST_UNITS,
+};
 use unit_tree::Unit;
 
 /// The place among the inputs and what comes behind them.
@@ -27,11 +31,11 @@ fn behind_inputs(unit: &Unit, place: usize) -> usize
         .saturating_sub(unit.events_in.len())
 }
 
-/// Whether so many plain ports, and event ports up to a place, are more than 32.
-fn are_too_many_ports(plain: usize, place: usize) -> bool
-    ensures { result ≡ nat_lt 32 (plain + 2 * (place + 1)) }
+/// Whether so many plain ports, and event ports up to a place, are more than the limit.
+fn are_too_many_ports(limit: usize, plain: usize, place: usize) -> bool
+    ensures { result ≡ nat_lt limit (plain + 2 * (place + 1)) }
 {
-    plain as u128 + 2 * (place as u128 + 1) > 32
+    plain as u128 + 2 * (place as u128 + 1) > limit as u128
 }
 
 /// Rule 16, in a unit: whether there are too many declarations of the line's sort, up to the line.
@@ -39,21 +43,23 @@ fn exceeds_in_unit(unit: &Unit, place: usize, line: FormRef<'_>) -> bool
     ensures { result ≡ exceeds_in_unit unit.now place (form_of line.entry) }
 {
     match line {
-        FormRef::Param(_) => place >= 32,
-        FormRef::State(_) => place.saturating_sub(unit.params.len()) >= 64,
+        FormRef::Param(_) => place >= MOST_PARAMS,
+        FormRef::State(_) => place.saturating_sub(unit.params.len()) >= MOST_STATES,
         FormRef::Local(_) => {
             place
                 .saturating_sub(unit.params.len())
                 .saturating_sub(unit.states.len())
-                >= 64
+                >= MOST_LOCALS
         }
-        FormRef::Input(_) => behind_locals(unit, place) >= 32,
+        FormRef::Input(_) => behind_locals(unit, place) >= MOST_INPUTS,
         FormRef::EventInput(_) => are_too_many_ports(
+            MOST_INPUTS,
             unit.inputs.len(),
             behind_locals(unit, place).saturating_sub(unit.inputs.len()),
         ),
-        FormRef::Output(_) => behind_inputs(unit, place) >= 32,
+        FormRef::Output(_) => behind_inputs(unit, place) >= MOST_OUTPUTS,
         FormRef::EventOutput(_) => are_too_many_ports(
+            MOST_OUTPUTS,
             unit.outputs.len(),
             behind_inputs(unit, place).saturating_sub(unit.outputs.len()),
         ),
@@ -66,9 +72,10 @@ fn exceeds_on_top(tables: &SystemTables<'_>, place: usize, line: FormRef<'_>) ->
     ensures { result ≡ exceeds_on_top tables.now place (form_of line.entry) }
 {
     match line {
-        FormRef::Unit(_) | FormRef::Instance(_) => place >= 64,
+        FormRef::Unit(_) => place >= MOST_UNITS,
+        FormRef::Instance(_) => place >= MOST_INSTANCES,
         FormRef::Connect(_) => tables.has_too_many_wires(place),
-        FormRef::Sample(_) => place >= 2048,
+        FormRef::Sample(_) => place >= MOST_SAMPLES,
         _ => false,
     }
 }

@@ -9,16 +9,11 @@ ghost use Rattle.unit_tree.specs.WellFormed.{step_cost};
 
 use crate::walk::{FormRef, ScopeRef};
 use fixed_words::List;
+use model_rules::{DEEPEST_EXPRESSION, GREATEST_COST};
 use unit_names::{
     cost, is_within, lines_cost, presence_cost, presence_is_within, word_cost, word_is_within,
 };
 use unit_tree::{EventOut, Expr, Line};
-
-/// The greatest depth of an expression.
-const DEEPEST: u32 = 32;
-
-/// The greatest cost of a call.
-const DEAREST: u32 = 100_000;
 
 /// The expression on a line.
 fn expression_on<'a>(line: FormRef<'a>) -> Option<&'a Expr>
@@ -39,7 +34,8 @@ fn expression_on<'a>(line: FormRef<'a>) -> Option<&'a Expr>
 fn is_deep_event(event: &EventOut) -> bool
     ensures { result ≡ (is_deeper (presence_of event.now.value) || is_deeper (word_expression_of event.now.ty event.now.value)) }
 {
-    !presence_is_within(&event.value, DEEPEST) || !word_is_within(event.ty, &event.value, DEEPEST)
+    !presence_is_within(&event.value, DEEPEST_EXPRESSION)
+        || !word_is_within(event.ty, &event.value, DEEPEST_EXPRESSION)
 }
 
 /// Whether the expression on a line is too deep.
@@ -47,7 +43,7 @@ fn is_deep_line(line: FormRef<'_>) -> bool
     ensures { result ≡ is_given_deeper (expression_on (form_of line.entry)) }
 {
     match expression_on(line) {
-        Some(value) => !is_within(value, DEEPEST),
+        Some(value) => !is_within(value, DEEPEST_EXPRESSION),
         None => false,
     }
 }
@@ -67,7 +63,7 @@ pub(crate) fn has_deep_expression(scope: ScopeRef<'_, '_>, line: FormRef<'_>) ->
 fn is_dear(value: &Expr) -> bool
     ensures { result ≡ is_dearer value.now }
 {
-    cost(value) + 1 > DEAREST
+    cost(value) + 1 > GREATEST_COST
 }
 
 /// Whether a call of an output that an event output becomes costs too much.
@@ -75,7 +71,8 @@ fn is_dear(value: &Expr) -> bool
 fn is_dear_event(event: &EventOut) -> bool
     ensures { result ≡ (is_dearer (presence_of event.now.value) || is_dearer (word_expression_of event.now.ty event.now.value)) }
 {
-    presence_cost(&event.value) + 1 > DEAREST || word_cost(event.ty, &event.value) + 1 > DEAREST
+    presence_cost(&event.value) + 1 > GREATEST_COST
+        || word_cost(event.ty, &event.value) + 1 > GREATEST_COST
 }
 
 /// Whether a step costs too much.
@@ -84,7 +81,7 @@ fn is_dear_step(step: &Option<List<Line>>) -> bool
     ensures { result ≡ nat_lt 100000 (step_cost step.now) }
 {
     match step {
-        Some(lines) => lines_cost(lines.as_slice()) + 1 > DEAREST,
+        Some(lines) => lines_cost(lines.as_slice()) + 1 > GREATEST_COST,
         None => false,
     }
 }

@@ -1,6 +1,6 @@
 //! The rules, and what each asks of a line.
 ghost use Rattle.std.specs.Prelude.{◌≡◌};
-ghost use Rattle.unit_check.specs.Rules.{test_of, number_of};
+ghost use Rattle.unit_check.specs.Rules.{test_of, number_of, rule_of};
 ghost use Rattle.unit_check.specs.Walks.{scope_of, form_of};
 
 use crate::counts::exceeds;
@@ -11,6 +11,7 @@ use crate::ports::{connects_again, joins_other_types, repeats};
 use crate::run_lines::{has_too_many_rows, lacks_instance, lacks_stop, mistimes};
 use crate::tables::SystemTables;
 use crate::walk::{FormRef, ScopeRef};
+use model_rules::Rule;
 
 /// A rule of a system. Each has the number under which a refusal names it; 15, on cycles, is judged by the order of outputs.
 #[derive(Clone, Copy, Debug, PartialEq, Eq)]
@@ -50,28 +51,35 @@ pub(crate) enum SystemRule {
 }
 
 impl SystemRule {
+    /// The rule among all.
+    fn rule(self) -> Rule
+        ensures { result ≡ rule_of self }
+    {
+        match self {
+            SystemRule::NamesDiffer => Rule::NamesDiffer,
+            SystemRule::NamesAreDeclared => Rule::NamesAreDeclared,
+            SystemRule::KindsFit => Rule::KindsFit,
+            SystemRule::LiteralsFit => Rule::LiteralsFit,
+            SystemRule::NeedsAreNamed => Rule::NeedsAreNamed,
+            SystemRule::InputsConnectOnce => Rule::InputsConnectOnce,
+            SystemRule::EndsMatch => Rule::EndsMatch,
+            SystemRule::CountsFit => Rule::CountsFit,
+            SystemRule::DepthFits => Rule::DepthFits,
+            SystemRule::CostFits => Rule::CostFits,
+            SystemRule::StopIsThere => Rule::StopIsThere,
+            SystemRule::TimesAreTicks => Rule::TimesAreTicks,
+            SystemRule::RowsFit => Rule::RowsFit,
+            SystemRule::TargetsMayChange => Rule::TargetsMayChange,
+            SystemRule::InstanceIsThere => Rule::InstanceIsThere,
+            SystemRule::NothingRepeats => Rule::NothingRepeats,
+        }
+    }
+
     /// Its number in a refusal.
     pub(crate) fn number(self) -> u8
         ensures { result ≡ number_of self }
     {
-        match self {
-            SystemRule::NamesDiffer => 8,
-            SystemRule::NamesAreDeclared => 9,
-            SystemRule::KindsFit => 10,
-            SystemRule::LiteralsFit => 11,
-            SystemRule::NeedsAreNamed => 12,
-            SystemRule::InputsConnectOnce => 13,
-            SystemRule::EndsMatch => 14,
-            SystemRule::CountsFit => 16,
-            SystemRule::DepthFits => 17,
-            SystemRule::CostFits => 18,
-            SystemRule::StopIsThere => 19,
-            SystemRule::TimesAreTicks => 20,
-            SystemRule::RowsFit => 21,
-            SystemRule::TargetsMayChange => 22,
-            SystemRule::InstanceIsThere => 23,
-            SystemRule::NothingRepeats => 24,
-        }
+        self.rule().number()
     }
 }
 

@@ -8,6 +8,7 @@ ghost use Rattle.unit_tree.specs.Names.{unit_of_instance};
 
 use crate::walk::FormRef;
 use fixed_words::Literal;
+use model_rules::MOST_CELLS;
 use super_time::read_seconds;
 use unit_names::SystemNames;
 use unit_tree::Instance;
@@ -38,7 +39,7 @@ pub(crate) fn has_too_many_rows(names: &SystemNames<'_>, line: FormRef<'_>) -> b
 {
     match line {
         FormRef::Rows(count) => {
-            u128::from(count) * names.system().instances.len() as u128 > 1_000_000
+            u128::from(count) * names.system().instances.len() as u128 > u128::from(MOST_CELLS)
         }
         _ => false,
     }

@@ -7,6 +7,7 @@ ghost use Rattle.unit_check.specs.Joins.{is_event_found};
 
 use crate::port_tables::{PortPlaces, find_port, places_of_connections, places_of_samples};
 use fixed_words::NoMemory;
+use model_rules::MOST_CONNECTIONS;
 use std::alloc::Global;
 use std::marker::Model;
 use unit_names::{Declared, SystemNames};
@@ -50,7 +51,7 @@ fn first_wire_too_many(names: &SystemNames<'_>) -> Option<usize>
     let mut count = 0;
     for (place, wire) in names.system().wires.as_slice().iter().enumerate() {
         count += width(names, wire);
-        if count > 2048 {
+        if count > MOST_CONNECTIONS {
             return Some(place);
         }
     }

@@ -3,6 +3,7 @@ use Rattle.std.specs.Prelude.{ℕ, suc, Bool, true, false, not, ◌&&◌, ◌||�
 use Rattle.std.specs.Int.{is_negative}
 use Rattle.std.specs.List.{list_all, list_any, flat_map}
 use Rattle.std.specs.Str.{bytes_eq}
+use Rattle.model_rules.specs.Limits.{decimals_limit, line_limit, name_limit, rows_limit, turn_limit, writing_limit, zero_limit}
 use Rattle.fixed_words.specs.Types.{is_word_of}
 use Rattle.fixed_words.specs.declared.types.Literal.{Literal}
 use Rattle.fixed_words.specs.declared.types.Literal.TheVariants as literal
@@ -28,7 +29,7 @@ use Rattle.unit_tree.specs.declared.token.Keyword.TheVariants as word
 -- Whether a text is a word.
 abbrev pub is_word : List ℕ → Bool
 is_word [] = false
-is_word (first ∷ others) = is_letter first && (list_all is_word_byte others && nat_lt (length others) 32)
+is_word (first ∷ others) = is_letter first && (list_all is_word_byte others && nat_lt (length others) name_limit)
 
 -- The reserved words.
 abbrev pub reserved_words : List Keyword
@@ -50,32 +51,32 @@ is_name text = is_word text && not (is_reserved text)
 
 -- Whether the decimals of a type are at most 9.
 abbrev pub are_decimals : Ty → Bool
-are_decimals (types.Fixed decimals) = nat_le decimals 9
+are_decimals (types.Fixed decimals) = nat_le decimals decimals_limit
 are_decimals _ = true
 
 -- Whether a literal is a truth value, or a word with at most nine decimals.
 abbrev pub literal_fits : Literal → Bool
 literal_fits (literal.Truth told) = true
-literal_fits (literal.Number number decimals) = nat_le decimals 9 && is_word_of types.Int64 number
+literal_fits (literal.Number number decimals) = nat_le decimals decimals_limit && is_word_of types.Int64 number
 
 -- Whether a number of seconds is a word from 0 up with at most nine decimals.
 abbrev pub seconds_fit : Literal → Bool
 seconds_fit (literal.Truth told) = false
-seconds_fit (literal.Number number decimals) = nat_le decimals 9 && (not (is_negative number) && is_word_of types.Int64 number)
+seconds_fit (literal.Number number decimals) = nat_le decimals decimals_limit && (not (is_negative number) && is_word_of types.Int64 number)
 
 -- Whether an expression may stand on a line of a text of the version: its names are names, its numbers are in range and
 -- not negative, it is nested at most 64 levels deep, and it speaks of events in version 2 alone.
 unfoldable pub expression_fits : ℕ → Expr → Bool
 expression_fits version value =
     list_all is_name (names_in value)
-    && (is_ranged value && (is_unsigned value && (nat_le (nesting (canonical_phrase value)) 64 && (not (speaks_of_events value) || (version == 2)))))
+    && (is_ranged value && (is_unsigned value && (nat_le (nesting (canonical_phrase value)) writing_limit && (not (speaks_of_events value) || (version == 2)))))
 
 -- ---- Lines
 
 -- Whether the version, the counts and the decimals on a line are those that the language allows.
 abbrev pub counts_fit : LineForm → Bool
 counts_fit (form.Header version) = nat_le 1 version && nat_le version 2
-counts_fit (form.Resolution decimals) = nat_le decimals 9
+counts_fit (form.Resolution decimals) = nat_le decimals decimals_limit
 counts_fit (form.Param param) = are_decimals param.ty
 counts_fit (form.State state) = are_decimals state.ty
 counts_fit (form.Local local) = are_decimals local.ty
@@ -83,9 +84,9 @@ counts_fit (form.Input input) = are_decimals input.ty
 counts_fit (form.EventInput event) = are_decimals event.ty
 counts_fit (form.Output output) = are_decimals output.ty
 counts_fit (form.EventOutput event) = are_decimals event.ty
-counts_fit (form.Repeat count) = nat_le 1 count && nat_le count 1000
-counts_fit (form.Zero count) = nat_le count 10000
-counts_fit (form.Rows count) = nat_le 1 count && nat_le count 100000
+counts_fit (form.Repeat count) = nat_le 1 count && nat_le count turn_limit
+counts_fit (form.Zero count) = nat_le count zero_limit
+counts_fit (form.Rows count) = nat_le 1 count && nat_le count rows_limit
 counts_fit _ = true
 
 -- Whether what a line ends with may stand in a text of the version.
@@ -124,4 +125,4 @@ parts_fit version parts = list_all (line_fits version) (flat_map part_forms part
 -- Whether the lines of a text, each ended by LF, have at most 1,000 bytes; of the first one, so many stand in front.
 abbrev pub are_short : ℕ → List ℕ → Bool
 are_short before [] = true
-are_short before (byte ∷ text) = if byte == 10 then are_short 0 text else (nat_lt before 1000 && are_short (suc before) text)
+are_short before (byte ∷ text) = if byte == 10 then are_short 0 text else (nat_lt before line_limit && are_short (suc before) text)

@@ -9,13 +9,14 @@ ghost use Rattle.unit_tree.specs.Parts.{part_forms, line_forms};
 ghost use Rattle.unit_tree.specs.declared.line_form.LineForm.TheVariants as form;
 ghost use Rattle.unit_print.specs.Fitting.{line_fits, instance_fits, unit_parts_fit, parts_fit};
 
-use crate::fitting_expressions::{MOST_DECIMALS, expression_fits};
+use crate::fitting_expressions::expression_fits;
 use crate::fitting_lines::{
     event_input_fits, event_output_fits, input_fits, local_fits, output_fits, param_fits,
     sample_fits, seconds_fit, setting_fits, state_fits, wire_fits,
 };
 use crate::names::is_name;
 use fixed_words::{List, Literal};
+use model_rules::{MOST_DECIMALS, MOST_ROWS, MOST_TURNS, MOST_ZERO_STEPS};
 use unit_tree::{
     EventIn, EventOut, Expr, Input, Instance, Line, Local, Output, Param, PortName, Setting, State,
     System, Unit, Wire,
@@ -41,7 +42,7 @@ fn step_line_fits(version: u8, line: &Line) -> bool
             }
         },
         Line::Repeat { count, body } => {
-            1 <= *count && *count <= 1000 && step_lines_fit(version, body.as_slice())
+            1 <= *count && *count <= MOST_TURNS && step_lines_fit(version, body.as_slice())
         }
         Line::Accept { value } => expression_fits(version, value),
     }
@@ -240,7 +241,7 @@ fn zero_fits(given: Option<u32>) -> bool
 {
     match given {
         None => true,
-        Some(count) => count <= 10_000,
+        Some(count) => count <= MOST_ZERO_STEPS,
     }
 }
 
@@ -249,7 +250,7 @@ fn rows_fit(given: Option<u32>) -> bool
 {
     match given {
         None => true,
-        Some(count) => 1 <= count && count <= 100_000,
+        Some(count) => 1 <= count && count <= MOST_ROWS,
     }
 }
 

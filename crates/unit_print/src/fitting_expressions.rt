@@ -11,14 +11,9 @@ ghost use Rattle.unit_print.specs.Fitting.{is_name, expression_fits};
 
 use crate::levels::{is_call, level_of, operand_level};
 use crate::names::is_name;
+use model_rules::{DEEPEST_WRITING, MOST_DECIMALS};
 use unit_tree::levels::{Level, allows, binary_level, left_level, right_level};
 use unit_tree::{Expr, UnOp, speaks_of_events};
-
-/// The most levels that an expression is nested deep.
-const DEEPEST: u32 = 64;
-
-/// The most decimals of a number.
-pub(crate) const MOST_DECIMALS: u8 = 9;
 
 /// Whether all names in an expression are names.
 fn has_names(expr: &Expr) -> bool
@@ -136,6 +131,6 @@ pub(crate) fn expression_fits(version: u8, expr: &Expr) -> bool
     has_names(expr)
         && is_ranged(expr)
         && is_unsigned(expr)
-        && is_within(expr, DEEPEST)
+        && is_within(expr, u32::from(DEEPEST_WRITING))
         && (!speaks_of_events(expr) || version == 2)
 }

@@ -6,9 +6,10 @@ ghost use Rattle.std.specs.List.{list_all};
 ghost use Rattle.unit_tree.specs.declared.line_form.LineForm.TheVariants as form;
 ghost use Rattle.unit_print.specs.Fitting.{is_name, are_decimals, literal_fits, seconds_fit, line_fits};
 
-use crate::fitting_expressions::{MOST_DECIMALS, expression_fits};
+use crate::fitting_expressions::expression_fits;
 use crate::names::is_name;
 use fixed_words::{Literal, Ty};
+use model_rules::MOST_DECIMALS;
 use unit_tree::{
     EventIn, EventOut, Input, Local, Name, Output, Param, PortName, Setting, State, Wire,
 };

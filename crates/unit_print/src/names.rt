@@ -4,10 +4,8 @@ ghost use Rattle.std.specs.List.{list_all};
 ghost use Rattle.unit_tree.specs.Tokens.{is_word_byte};
 ghost use Rattle.unit_print.specs.Fitting.{is_word, reserved_words, is_reserved, is_name};
 
+use model_rules::LONGEST_NAME;
 use unit_tree::{Keyword, is_letter, is_word_byte};
-
-/// The most bytes of a word.
-const LONGEST_WORD: usize = 32;
 
 fn are_word_bytes(bytes: &[u8]) -> bool
     ensures { result ≡ list_all is_word_byte bytes.now }
@@ -19,7 +17,7 @@ fn are_word_bytes(bytes: &[u8]) -> bool
 fn goes_on(others: &[u8]) -> bool
     ensures { result ≡ (list_all is_word_byte others.now && nat_lt (length others.now) 32) }
 {
-    are_word_bytes(others) && others.len() < LONGEST_WORD
+    are_word_bytes(others) && others.len() < LONGEST_NAME
 }
 
 fn is_word(text: &[u8]) -> bool

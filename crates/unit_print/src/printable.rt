@@ -8,17 +8,9 @@ ghost use Rattle.unit_print.specs.Fitting.{are_short, line_fits};
 use crate::fitting::system_fits;
 use crate::printing::print_system;
 use fixed_words::{List, NoMemory};
+use model_rules::{DEEPEST_BLOCK, LONGEST_LINE, LONGEST_TEXT};
 use std::alloc::Global;
 use unit_tree::{Line, System, Unit};
-
-/// How deep blocks of a step may stand in each other.
-const DEEPEST_BLOCKS: u32 = 16;
-
-/// The most bytes of a line without its end.
-const LONGEST_LINE: usize = 1_000;
-
-/// The most bytes of a text.
-const LONGEST_TEXT: usize = 1_048_576;
 
 /// Whether blocks stand at most so deep in a line.
 #[cycle(depth)]
@@ -69,7 +61,7 @@ fn steps_are_within(units: &[Unit]) -> bool
 {
     units
         .iter()
-        .all(|unit| step_is_within(&unit.step, DEEPEST_BLOCKS))
+        .all(|unit| step_is_within(&unit.step, DEEPEST_BLOCK))
 }
 
 /// Whether no line of a text in which each line ends with LF is too long.

@@ -11,7 +11,8 @@ use Rattle.unit_tree.specs.LineForms.{HasForm}
 use Rattle.unit_tree.specs.Blocks.{Block, Before, no_lines, and_line, and_lines, open_blocks, may_stand, are_placed}
 use Rattle.unit_tree.specs.Lines.{source_lines, size_of, code_of, is_code_byte, is_blank_line, has_forbidden_byte}
 use Rattle.unit_tree.specs.Parts.{Part, text_forms, system_of}
-use Rattle.unit_tree.specs.Texts.{text_limit, line_limit, Breaks, HaveForms, HasFormIn, LineBreaks, Reads, IsFirstBroken, IsUnended, IsRefused}
+use Rattle.model_rules.specs.Limits.{line_limit, text_limit}
+use Rattle.unit_tree.specs.Texts.{Breaks, HaveForms, HasFormIn, LineBreaks, Reads, IsFirstBroken, IsUnended, IsRefused}
 use Rattle.unit_tree.specs.Tokens.{is_blank}
 use Rattle.unit_tree.specs.declared.line_form.LineForm.{LineForm}
 use Rattle.unit_tree.specs.declared.line_form.LineForm.TheVariants as form

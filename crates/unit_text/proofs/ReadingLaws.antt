@@ -15,7 +15,8 @@ use Rattle.unit_tree.specs.Lines.{lines_of, without_return, source_lines, size_o
 use Rattle.unit_tree.specs.Parts.{system_of}
 use Rattle.unit_tree.specs.SourceLines as source_numbers
 use Rattle.unit_tree.specs.SourceLines.{ReadsFrom}
-use Rattle.unit_tree.specs.Texts.{text_limit, BeginsVersion2, HasFormIn, IsFirstBroken, IsUnended, IsRefused}
+use Rattle.model_rules.specs.Limits.{text_limit}
+use Rattle.unit_tree.specs.Texts.{BeginsVersion2, HasFormIn, IsFirstBroken, IsUnended, IsRefused}
 use Rattle.unit_tree.specs.declared.line_form.LineForm.{LineForm}
 use Rattle.unit_tree.specs.declared.line_form.LineForm.TheVariants as form
 use Rattle.unit_tree.specs.declared.system.System.{System}

@@ -10,7 +10,8 @@ use Rattle.std.proofs.lemmas.List.Elements.{filter-append}
 use Rattle.unit_tree.specs.Blocks.{Before, no_lines, and_line, and_lines, may_stand, are_placed}
 use Rattle.unit_tree.specs.LineForms.{HasForm, front_tokens, is_of_version_2}
 use Rattle.unit_tree.specs.Lines.{code_of, is_blank_line, has_forbidden_byte}
-use Rattle.unit_tree.specs.Texts.{line_limit, BeginsVersion2, HasFormIn, HaveForms, LineBreaks}
+use Rattle.model_rules.specs.Limits.{line_limit}
+use Rattle.unit_tree.specs.Texts.{BeginsVersion2, HasFormIn, HaveForms, LineBreaks}
 use Rattle.unit_tree.specs.declared.line_form.LineForm.{LineForm}
 use Rattle.unit_tree.specs.declared.line_form.LineForm.TheVariants as form
 use Rattle.unit_tree.specs.declared.token.Token.{Token}

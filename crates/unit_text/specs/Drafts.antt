@@ -2,6 +2,7 @@
 use Rattle.std.specs.Prelude.{◌≡◌, ⊤, ℕ, Bool, true, false, List, [], ◌∷◌, ◌++◌, length, Option, Some, None, Result, Ok, Err, if◌then◌else◌, nat_lt}
 use Rattle.std.specs.Prelude.{option_and_then}
 use Rattle.std.specs.Option.{option_map}
+use Rattle.model_rules.specs.Limits.{block_limit}
 use Rattle.fixed_words.specs.declared.types.Literal.{Literal}
 use Rattle.text_tokens.specs.declared.fault.Unread.{Unread}
 use Rattle.text_tokens.specs.declared.fault.Unread.TheVariants as unread
@@ -190,7 +191,7 @@ and_line step more = record step { lines = step.lines ++ (more ∷ []) }
 -- A block of `if` or `repeat` that begins, where at most fifteen are open.
 abbrev pub in_block : StepSoFar → Head → Option StepSoFar
 in_block step head =
-    if nat_lt (length step.around) 16 then Some (record { lines = []; around = step.around ++ (record { before = step.lines; head = head } ∷ []) }) else None
+    if nat_lt (length step.around) block_limit then Some (record { lines = []; around = step.around ++ (record { before = step.lines; head = head } ∷ []) }) else None
 
 abbrev pub turned_by : List Line → List Around → List Line → Head → Option StepSoFar
 turned_by lines around before (Then cond) = Some (record { lines = []; around = around ++ (record { before = before; head = Else cond lines } ∷ []) })

@@ -8,7 +8,8 @@ use Rattle.unit_tree.specs.Blocks.{no_lines, may_stand}
 use Rattle.unit_tree.specs.LineForms.{HasForm, is_of_version_2}
 use Rattle.unit_tree.specs.Lines.{source_lines, is_blank_line}
 use Rattle.unit_tree.specs.SourceLines.{ReadsFrom}
-use Rattle.unit_tree.specs.Texts.{line_limit, IsRefused}
+use Rattle.model_rules.specs.Limits.{line_limit}
+use Rattle.unit_tree.specs.Texts.{IsRefused}
 use Rattle.unit_tree.specs.declared.line_form.LineForm.{LineForm}
 use Rattle.unit_tree.specs.declared.line_form.LineForm.TheVariants as form
 use Rattle.text_tokens.specs.declared.fault.Unread.{Unread}

@@ -6,15 +6,13 @@ ghost use Rattle.unit_tree.specs.Parts.{bare_unit};
 ghost use Rattle.unit_text.specs.Drafts.{bare_draft, at_top, in_unit, in_step, in_instance, bare_instance, with_wire, with_stop, with_longest, with_zero, with_rows, with_sample, with_resolution, with_param, with_state, with_local, with_input, with_event_in, with_output, with_event_out, with_max, with_step, with_unit, with_setting, with_instance, headed, behind_block, with_form, top_form, declared_form, unit_form, and_line, in_block, turned, ended, line_in_step, step_form, instance_form, split_last, whole_system, is_top, limit_form, single_form, setting_form, Puts};
 
 use fixed_words::{List, Literal};
+use model_rules::DEEPEST_BLOCK;
 use std::alloc::Global;
 use text_tokens::Unread;
 use unit_tree::{
     EventIn, EventOut, Expr, Input, Instance, Line, LineForm, Local, Name, Output, Param, PortName,
     Setting, State, System, Unit, Wire,
 };
-
-/// How many blocks of `if` and `repeat` may stand in each other.
-const DEEPEST_BLOCK: usize = 16;
 
 /// What a block of step lines began with.
 #[derive(Drop)]
@@ -470,7 +468,7 @@ fn with_line(mut step: StepSoFar, line: Line) -> Result<StepSoFar, Unread>
 fn in_block(alloc: Global, step: StepSoFar, head: Head) -> Result<StepSoFar, Unread>
     ensures { Gives result (in_block step head) }
 {
-    if step.around.len() >= DEEPEST_BLOCK {
+    if step.around.len() >= DEEPEST_BLOCK as usize {
         drop(step);
         drop(head);
         return Err(Unread::NoForm);

@@ -18,4 +18,4 @@ mod reading;
 
 pub use fault::TextFault;
 pub use laws::{nesting_is_by_parts, texts_are_answered_once};
-pub use reading::{LONGEST_TEXT, ReadText, SIZE_RULE, read_system};
+pub use reading::{ReadText, read_system};

@@ -4,7 +4,7 @@ ghost use Rattle.std.specs.List.{list_all};
 ghost use Rattle.unit_tree.specs.Blocks.{no_lines, may_stand};
 ghost use Rattle.unit_tree.specs.Lines.{source_lines, size_of, is_blank_line};
 ghost use Rattle.unit_tree.specs.Printable.{IsPrintable};
-ghost use Rattle.unit_tree.specs.Texts.{text_limit};
+ghost use Rattle.model_rules.specs.Limits.{text_limit};
 ghost use Rattle.text_tokens.specs.Scanning.{Gives, ReadsAs};
 ghost use Rattle.unit_text.specs.Reading.{IsWritten, headless_rule, TellsVersion, FirstGives, IsFormOf, FormIn, and_group, LineGives, WholeGives, fault_at, AnswersAt, blank_rule, HeaderGives, AnswersText};
 
@@ -12,31 +12,13 @@ use crate::draft::Draft;
 use crate::fault::TextFault;
 use crate::numbers::{BlockPlace, Group, Mark, note, numbers_in_order};
 use fixed_words::List;
+use model_rules::{LONGEST_LINE, LONGEST_TEXT, Rule};
 use std::alloc::Global;
 use text_lines::{
-    LENGTH_RULE, LONGEST_LINE, Seen, VERSION_2, form_of_line, is_blank_line, is_of_version_2,
-    look_at, without_return,
+    Seen, VERSION_2, form_of_line, is_blank_line, is_of_version_2, look_at, without_return,
 };
 use text_tokens::{Unread, cut_line, size};
 use unit_tree::{LineForm, System};
-
-/// The most bytes of a text, with an end counted for each line.
-pub const LONGEST_TEXT: usize = 1_048_576;
-
-/// Rule 2: a text that is too long.
-pub const SIZE_RULE: u8 = 2;
-
-/// Rule 4: a line that has none of the forms, though it is not blank.
-const FORM_RULE: u8 = 4;
-
-/// Rule 5: a line that may not stand there.
-const PLACE_RULE: u8 = 5;
-
-/// Rule 6: a block that is open at the end.
-const END_RULE: u8 = 6;
-
-/// Rule 7: a text that does not begin with a header.
-const HEADER_RULE: u8 = 7;
 
 /// Whether a line may stand outside blocks, behind no lines.
 fn may_begin(form: &LineForm) -> bool
@@ -61,11 +43,11 @@ fn headless_rule(form: &LineForm) -> u8
     ensures { result ≡ headless_rule form.now }
 {
     if is_of_version_2(form) {
-        FORM_RULE
+        Rule::LineHasForm.number()
     } else if may_begin(form) {
-        HEADER_RULE
+        Rule::HeaderIsThere.number()
     } else {
-        PLACE_RULE
+        Rule::LineIsInPlace.number()
     }
 }
 
@@ -95,7 +77,7 @@ fn version_of(alloc: Global, line: &[u8], number: u32) -> Result<u8, TextFault>
 {
     let told = match form_of_line(alloc, line) {
         Ok(form) => version_in(form),
-        Err(Unread::NoForm) => Err(FORM_RULE),
+        Err(Unread::NoForm) => Err(Rule::LineHasForm.number()),
         Err(Unread::NoMemory) => return Err(TextFault::NoMemory),
     };
     match told {
@@ -170,12 +152,12 @@ fn with_written(
         Ok(form) => form,
         Err(unread) => {
             drop(draft);
-            return Err(at_line(unread, number, FORM_RULE));
+            return Err(at_line(unread, number, Rule::LineHasForm.number()));
         }
     };
     match and_group(alloc, draft, form) {
         Ok(next) => Ok(next),
-        Err(unread) => Err(at_line(unread, number, PLACE_RULE)),
+        Err(unread) => Err(at_line(unread, number, Rule::LineIsInPlace.number())),
     }
 }
 
@@ -218,7 +200,7 @@ fn whole_text(
         },
         None => Err(TextFault::Line {
             line: number,
-            rule: END_RULE,
+            rule: Rule::BlocksAreClosed.number(),
         }),
     }
 }
@@ -244,13 +226,13 @@ fn blank_rule(text: &[u8]) -> u8
     ensures { result ≡ blank_rule (source_lines text.now) }
 {
     if text.is_empty() {
-        return HEADER_RULE;
+        return Rule::HeaderIsThere.number();
     }
     let (line, _) = cut_line(text);
     if without_return(line).len() > LONGEST_LINE {
-        LENGTH_RULE
+        Rule::LineFits.number()
     } else {
-        HEADER_RULE
+        Rule::HeaderIsThere.number()
     }
 }
 
@@ -280,7 +262,7 @@ fn header_of(alloc: Global, text: &[u8]) -> Result<(u8, u32, &[u8]), TextFault>
     }
     Err(TextFault::Line {
         line: 1,
-        rule: HEADER_RULE,
+        rule: Rule::HeaderIsThere.number(),
     })
 }
 
@@ -317,7 +299,7 @@ pub fn read_system(alloc: Global, text: &[u8]) -> Result<ReadText, TextFault>
     if size(text) > LONGEST_TEXT {
         return Err(TextFault::Line {
             line: 1,
-            rule: SIZE_RULE,
+            rule: Rule::TextFits.number(),
         });
     }
     if is_blank_text(text) {

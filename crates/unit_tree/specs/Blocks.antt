@@ -1,6 +1,7 @@
 -- Blocks: which are open behind lines, and which lines may stand there.
 use Rattle.std.specs.Prelude.{Bool, true, false, not, ◌&&◌, nat_lt, List, [], ◌∷◌, ◌++◌, drop, if◌then◌else◌}
 use Rattle.std.specs.List.{fold, list_any, count_by}
+use Rattle.model_rules.specs.Limits.{block_limit}
 use Rattle.unit_tree.specs.LineForms.{are_alike}
 use Rattle.unit_tree.specs.declared.line_form.LineForm.{LineForm}
 use Rattle.unit_tree.specs.declared.line_form.LineForm.TheVariants as form
@@ -130,8 +131,8 @@ is_inner _ = false
 
 -- `if` and `repeat` stand in at most fifteen open blocks of `if` and `repeat`.
 abbrev pub has_room : List Block → LineForm → Bool
-has_room blocks (form.If cond) = nat_lt (count_by is_inner blocks) 16
-has_room blocks (form.Repeat count) = nat_lt (count_by is_inner blocks) 16
+has_room blocks (form.If cond) = nat_lt (count_by is_inner blocks) block_limit
+has_room blocks (form.Repeat count) = nat_lt (count_by is_inner blocks) block_limit
 has_room blocks _ = true
 
 -- The line may stand there.

@@ -4,6 +4,7 @@ use Rattle.std.specs.Prelude.{◌≡◌, ◌≤◌, ℕ, ◌==◌, ◌-◌, ◌/
 use Rattle.std.specs.List.{AllByRecursion, filter_map, position_or_len}
 use Rattle.std.specs.Option.{unwrap_or}
 use Rattle.std.specs.Str.{bytes_eq}
+use Rattle.model_rules.specs.Limits.{cell_limit}
 use Rattle.fixed_words.specs.declared.types.Literal.{Literal}
 use Rattle.super_time.specs.Seconds.{ticks_in}
 use Rattle.unit_tree.specs.Components.{Component, start_word}
@@ -103,7 +104,7 @@ abbrev pub default_zeros : ℕ → ℕ
 default_zeros version = if version == 2 then 1000 else 100
 
 abbrev pub default_rows : ℕ → ℕ → ℕ
-default_rows version instances = min (if version == 2 then 10000 else 100000) (1000000 / instances)
+default_rows version instances = min (if version == 2 then 10000 else 100000) (cell_limit / instances)
 
 -- A system without event ports, as the plain form of every system in range is.
 abbrev pub HasNoEvents : System → Type 0

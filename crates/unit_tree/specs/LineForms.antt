@@ -1,6 +1,7 @@
 -- The forms of lines: which tokens write each of them.
 use Rattle.std.specs.Prelude.{◌≡◌, ℕ, ◌^◌, ◌≤◌, ◌<◌, Bool, true, false, ◌||◌, ◌==◌, ℤ, pos, List, [], ◌∷◌, ◌++◌, codes, IsTrue, if◌then◌else◌, ⊤}
 use Rattle.std.specs.Str.{bytes_eq}
+use Rattle.model_rules.specs.Limits.{decimals_limit, rows_limit, turn_limit, zero_limit}
 use Rattle.fixed_words.specs.Literals.{with_sign}
 use Rattle.fixed_words.specs.Types.{AreDecimals, is_word_of}
 use Rattle.fixed_words.specs.declared.types.Literal.{Literal}
@@ -155,7 +156,7 @@ WritesTail (OfExpression value) tokens = Writes value tokens
 -- The version, the count, the resolution and the decimals of the type on a line are those that the language allows.
 abbrev pub AreCountsInRange : LineForm → Type 0
 AreCountsInRange (form.Header version) = (1 ≤ version) × (version ≤ 2)
-AreCountsInRange (form.Resolution decimals) = decimals ≤ 9
+AreCountsInRange (form.Resolution decimals) = decimals ≤ decimals_limit
 AreCountsInRange (form.Param param) = AreDecimals param.ty
 AreCountsInRange (form.State state) = AreDecimals state.ty
 AreCountsInRange (form.Local local) = AreDecimals local.ty
@@ -163,9 +164,9 @@ AreCountsInRange (form.Input input) = AreDecimals input.ty
 AreCountsInRange (form.EventInput event) = AreDecimals event.ty
 AreCountsInRange (form.Output output) = AreDecimals output.ty
 AreCountsInRange (form.EventOutput event) = AreDecimals event.ty
-AreCountsInRange (form.Repeat count) = (1 ≤ count) × (count ≤ 1000)
-AreCountsInRange (form.Zero count) = count ≤ 10000
-AreCountsInRange (form.Rows count) = (1 ≤ count) × (count ≤ 100000)
+AreCountsInRange (form.Repeat count) = (1 ≤ count) × (count ≤ turn_limit)
+AreCountsInRange (form.Zero count) = count ≤ zero_limit
+AreCountsInRange (form.Rows count) = (1 ≤ count) × (count ≤ rows_limit)
 AreCountsInRange _ = ⊤
 
 -- The tokens write the form.

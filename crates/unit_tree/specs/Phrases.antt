@@ -16,6 +16,7 @@
 --               | "max" "(" whole "," whole ")" | "clamp" "(" whole "," whole "," whole ")"
 --               and in version 2 also "absent" | "present" "(" name ")"
 use Rattle.std.specs.Prelude.{◌≡◌, ℕ, suc, ◌^◌, max, Bool, true, false, ◌&&◌, nat_le, nat_lt, pos, List, [], ◌∷◌, ◌++◌, IsTrue}
+use Rattle.model_rules.specs.Limits.{writing_limit}
 use Rattle.unit_tree.specs.Values.{unary_is_ranged}
 use Rattle.unit_tree.specs.declared.expr.BinOp.{BinOp}
 use Rattle.unit_tree.specs.declared.expr.BinOp.TheVariants as by
@@ -253,7 +254,7 @@ numbers_fit _ = true
 -- The grammar has the expression: each part stands on its level, the parts are nested at most 64 levels deep, and the
 -- numbers, that of each `fix N` too, are in range.
 abbrev pub is_expression : Phrase → Bool
-is_expression phrase = stands Whole phrase && (nat_le (nesting phrase) 64 && numbers_fit phrase)
+is_expression phrase = stands Whole phrase && (nat_le (nesting phrase) writing_limit && numbers_fit phrase)
 
 -- The tokens write the expression.
 pub record Writes (tree : Expr) (tokens : List Token) : Type 0 where

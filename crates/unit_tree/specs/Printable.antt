@@ -3,6 +3,7 @@ use Rattle.std.specs.Prelude.{◌≡◌, ◌≤◌, ℕ, suc, max, Bool, true, f
 use Rattle.std.specs.Prelude.{IsFalse, ⊤}
 use Rattle.std.specs.Int.{is_negative}
 use Rattle.std.specs.List.{AllByRecursion, list_all, list_any, fold}
+use Rattle.model_rules.specs.Limits.{block_limit, decimals_limit, line_limit, text_limit, writing_limit}
 use Rattle.fixed_words.specs.Types.{is_word_of}
 use Rattle.fixed_words.specs.declared.types.Literal.{Literal}
 use Rattle.fixed_words.specs.declared.types.Literal.TheVariants as literal
@@ -11,7 +12,6 @@ use Rattle.unit_tree.specs.Canonical.{canonical_forms, canonical_phrase, canonic
 use Rattle.unit_tree.specs.LineForms.{Tail, Nothing, OfLiteral, OfSeconds, OfExpression, tail_of, AreCountsInRange, is_of_version_2}
 use Rattle.unit_tree.specs.Names.{names_in, expression_on}
 use Rattle.unit_tree.specs.Phrases.{nesting}
-use Rattle.unit_tree.specs.Texts.{text_limit, line_limit}
 use Rattle.unit_tree.specs.Tokens.{IsWord, IsName}
 use Rattle.unit_tree.specs.Values.{is_ranged}
 use Rattle.unit_tree.specs.declared.expr.Expr.{Expr, fold-Expr}
@@ -52,7 +52,7 @@ names_on line = names_said line ++ names_on_expression (expression_on line)
 -- A literal has at most nine decimals.
 abbrev pub IsLiteralInRange : Literal → Type 0
 IsLiteralInRange (literal.Truth told) = ⊤
-IsLiteralInRange (literal.Number number decimals) = decimals ≤ 9
+IsLiteralInRange (literal.Number number decimals) = decimals ≤ decimals_limit
 
 -- A literal, a number of seconds, and the numbers of an expression have at most nine decimals; so has what each `fix N` in
 -- it gives.
@@ -111,7 +111,7 @@ abbrev pub is_writable : Tail → Bool
 is_writable Nothing = true
 is_writable (OfLiteral value) = is_word_literal value
 is_writable (OfSeconds seconds) = is_seconds seconds
-is_writable (OfExpression value) = is_unsigned value && nat_le (nesting (canonical_phrase value)) 64
+is_writable (OfExpression value) = is_unsigned value && nat_le (nesting (canonical_phrase value)) writing_limit
 
 -- How deep blocks of `if` and `repeat` stand in each other: of lines that are so deep, and of one line with the
 -- depth of each line of its block in its place.
@@ -142,6 +142,6 @@ pub record IsPrintable (system : System) : Type 0 where
   pub of_version : system.version ≡ 1 → IsFalse (list_any is_of_version_2 (canonical_forms system))
   pub names : AllByRecursion (λ line. AllByRecursion IsName (names_on line)) (canonical_forms system)
   pub tails : IsTrue (list_all (λ line. is_writable (tail_of line)) (canonical_forms system))
-  pub blocks : IsTrue (list_all (λ unit. nat_le (step_depth unit.step) 16) system.units)
+  pub blocks : IsTrue (list_all (λ unit. nat_le (step_depth unit.step) block_limit) system.units)
   pub lines : IsTrue (list_all (λ line. nat_le (length (line_text line)) line_limit) (canonical_forms system))
   pub text : length (canonical_text system) ≤ text_limit

@@ -12,6 +12,7 @@
 -- both versions. Any other text has those of version 1 alone.
 use Rattle.std.specs.Prelude.{◌≡◌, ◌≢◌, ◌≤◌, ◌<◌, ◌⊎◌, ℕ, suc, not, nat_le, List, [], ◌∷◌, ◌++◌, length, IsTrue, IsFalse}
 use Rattle.std.specs.List.{filter, list_all, AllZip}
+use Rattle.model_rules.specs.Limits.{line_limit, text_limit}
 use Rattle.unit_tree.specs.Blocks.{no_lines, and_lines, open_blocks, may_stand, are_placed}
 use Rattle.unit_tree.specs.LineForms.{HasForm, is_of_version_2}
 use Rattle.unit_tree.specs.Lines.{source_lines, size_of, is_blank_line, has_forbidden_byte}
@@ -19,13 +20,6 @@ use Rattle.unit_tree.specs.Parts.{Part, text_forms, system_of}
 use Rattle.unit_tree.specs.declared.line_form.LineForm.{LineForm}
 use Rattle.unit_tree.specs.declared.line_form.LineForm.TheVariants as form
 use Rattle.unit_tree.specs.declared.system.System.{System}
-
--- The most bytes of a text, with a LF counted for each line, and the most of a line without its end.
-abbrev pub text_limit : ℕ
-text_limit = 1048576
-
-abbrev pub line_limit : ℕ
-line_limit = 1000
 
 -- The first of the lines that is not blank is the header of version 2.
 pub record BeginsVersion2 (lines : List (List ℕ)) : Type 0 where

@@ -1,6 +1,7 @@
 -- The tokens of a line: how each is spelled, and where it ends.
 use Rattle.std.specs.Prelude.{◌≡◌, ℕ, ◌<◌, ◌≤◌, Bool, false, ◌&&◌, ◌||◌, ◌==◌, nat_le, List, [], ◌∷◌, ◌++◌, length, codes, IsTrue, IsFalse}
 use Rattle.std.specs.List.{list_all}
+use Rattle.model_rules.specs.Limits.{name_limit}
 pub use Rattle.fixed_words.specs.Digits.{is_digit, number_from, pointed, IsNumber}
 use Rattle.unit_tree.specs.declared.token.Keyword.{Keyword}
 use Rattle.unit_tree.specs.declared.token.Keyword.TheVariants as word
@@ -87,7 +88,7 @@ symbol_text sign.Point = codes "."
 -- A word: a letter or `_`, then letters, digits and `_`; at most 32 bytes.
 abbrev pub IsWord : List ℕ → Type 0
 IsWord [] = ⊥
-IsWord (first ∷ others) = IsTrue (is_letter first) × IsTrue (list_all is_word_byte others) × (length others < 32)
+IsWord (first ∷ others) = IsTrue (is_letter first) × IsTrue (list_all is_word_byte others) × (length others < name_limit)
 
 abbrev pub IsReserved : List ℕ → Type 0
 IsReserved text = (keyword : Keyword) × (text ≡ keyword_text keyword)

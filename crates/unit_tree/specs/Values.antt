@@ -4,6 +4,7 @@ use Rattle.std.specs.Prelude.{int_lt, int_le, Result, Ok, Err}
 use Rattle.std.specs.Str.{bytes_eq}
 use Rattle.std.specs.Ordering.{int_eq}
 use Rattle.std.specs.Int.{int_min, int_max}
+use Rattle.model_rules.specs.Limits.{decimals_limit}
 use Rattle.fixed_words.specs.Types.{kind_of}
 use Rattle.fixed_words.specs.Operations.{Outcome, is_zero, sum, difference, product, quotient, remainder, fixed_product, fixed_quotient, negated, magnitude}
 use Rattle.fixed_words.specs.Operations.{scaled_up, scaled_down, clamped}
@@ -74,22 +75,22 @@ ratio_of _ left right = quotient left right
 
 -- A kind has at most 9 decimals.
 abbrev pub IsKind : Kind → Type 0
-IsKind (kinds.Fixed decimals) = decimals ≤ 9
+IsKind (kinds.Fixed decimals) = decimals ≤ decimals_limit
 IsKind _ = ⊤
 
 -- `fix N` has an N of at most 9.
 abbrev pub IsUnary : UnOp → Type 0
-IsUnary (of.ToFix decimals) = decimals ≤ 9
+IsUnary (of.ToFix decimals) = decimals ≤ decimals_limit
 IsUnary _ = ⊤
 
 -- The numbers of decimals in an expression are at most 9: the test of one node, with that of each part in
 -- its place, and of the whole.
 abbrev pub unary_is_ranged : UnOp → Bool
-unary_is_ranged (of.ToFix decimals) = nat_le decimals 9
+unary_is_ranged (of.ToFix decimals) = nat_le decimals decimals_limit
 unary_is_ranged _ = true
 
 abbrev pub node_is_ranged : Expr-F Bool → Bool
-node_is_ranged (Expr-F.Number word decimals) = nat_le decimals 9
+node_is_ranged (Expr-F.Number word decimals) = nat_le decimals decimals_limit
 node_is_ranged (Expr-F.Unary op arg) = unary_is_ranged op && arg
 node_is_ranged (Expr-F.Binary op left right) = left && right
 node_is_ranged (Expr-F.Clamp value low high) = value && (low && high)

@@ -7,6 +7,7 @@ use Rattle.std.specs.List.{AllByRecursion, list_any, count_by, enumerate_from, f
 use Rattle.std.specs.Option.{option_map, option_and_then, unwrap_or}
 use Rattle.std.specs.Ordering.{int_eq}
 use Rattle.std.specs.Str.{bytes_eq}
+use Rattle.model_rules.specs.Limits.{cell_limit, connection_limit, cost_limit, depth_limit, input_limit, instance_limit, local_limit, output_limit, param_limit, sample_limit, state_limit, unit_limit}
 use Rattle.fixed_words.specs.Literals.{word_of_literal}
 use Rattle.fixed_words.specs.Types.{kind_of, lowest, highest}
 use Rattle.fixed_words.specs.declared.types.Kind.{Kind}
@@ -192,15 +193,15 @@ joins_other_types system _ = false
 
 -- How many there may be in one scope.
 abbrev pub limit_of : LineForm → Option ℕ
-limit_of (form.Unit name) = Some 64
-limit_of (form.Instance name unit) = Some 64
-limit_of (form.Param param) = Some 32
-limit_of (form.State state) = Some 64
-limit_of (form.Local local) = Some 64
-limit_of (form.Input input) = Some 32
-limit_of (form.Output output) = Some 32
-limit_of (form.Connect wire) = Some 2048
-limit_of (form.Sample port) = Some 2048
+limit_of (form.Unit name) = Some unit_limit
+limit_of (form.Instance name unit) = Some instance_limit
+limit_of (form.Param param) = Some param_limit
+limit_of (form.State state) = Some state_limit
+limit_of (form.Local local) = Some local_limit
+limit_of (form.Input input) = Some input_limit
+limit_of (form.Output output) = Some output_limit
+limit_of (form.Connect wire) = Some connection_limit
+limit_of (form.Sample port) = Some sample_limit
 limit_of _ = None
 
 abbrev pub is_above : Option ℕ → ℕ → Bool
@@ -221,7 +222,7 @@ exceeds system scope earlier line =
 
 abbrev pub is_deep : Option Expr → Bool
 is_deep None = false
-is_deep (Some value) = nat_lt 32 (depth_of value)
+is_deep (Some value) = nat_lt depth_limit (depth_of value)
 
 abbrev pub has_deep_expression : System → Scope → LineForm → Bool
 has_deep_expression system scope line = list_any (λ plain. is_deep (expression_on plain)) (plain_forms system scope line)
@@ -233,9 +234,9 @@ step_cost None = 0
 step_cost (Some lines) = step_call_cost lines
 
 abbrev pub is_dear : Scope → LineForm → Bool
-is_dear (UnitScope unit) (form.Output output) = nat_lt 100000 (expression_call_cost output.value)
-is_dear (UnitScope unit) (form.Max value) = nat_lt 100000 (expression_call_cost value)
-is_dear (UnitScope unit) form.Step = nat_lt 100000 (step_cost (plain_unit unit).step)
+is_dear (UnitScope unit) (form.Output output) = nat_lt cost_limit (expression_call_cost output.value)
+is_dear (UnitScope unit) (form.Max value) = nat_lt cost_limit (expression_call_cost value)
+is_dear (UnitScope unit) form.Step = nat_lt cost_limit (step_cost (plain_unit unit).step)
 is_dear _ _ = false
 
 abbrev pub costs_too_much : System → Scope → LineForm → Bool
@@ -271,7 +272,7 @@ mistimes system _ = false
 -- ---- Rule 21: rows times instances are above 1,000,000
 
 abbrev pub has_too_many_rows : System → LineForm → Bool
-has_too_many_rows system (form.Rows count) = nat_lt 1000000 (count * length system.instances)
+has_too_many_rows system (form.Rows count) = nat_lt cell_limit (count * length system.instances)
 has_too_many_rows system _ = false
 
 -- ---- Rule 22: a parameter, input or output is assigned

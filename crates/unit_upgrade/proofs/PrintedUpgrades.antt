@@ -10,7 +10,7 @@ use Rattle.unit_tree.specs.Canonical.{canonical_forms, canonical_text, line_text
 use Rattle.unit_tree.specs.Compositions.{default_rows, default_zeros}
 use Rattle.unit_tree.specs.LineForms.{tail_of}
 use Rattle.unit_tree.specs.Printable.{IsInRange, IsPrintable, IsRanged, is_writable, names_on}
-use Rattle.unit_tree.specs.Texts.{line_limit, text_limit}
+use Rattle.model_rules.specs.Limits.{line_limit, text_limit}
 use Rattle.unit_tree.specs.Tokens.{IsName, IsWord}
 use Rattle.unit_tree.specs.declared.line_form.LineForm.{LineForm}
 use Rattle.unit_tree.specs.declared.line_form.LineForm.TheVariants as form

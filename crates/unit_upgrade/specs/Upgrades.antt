@@ -3,7 +3,7 @@ use Rattle.std.specs.Prelude.{◌<◌, ◌≤◌, ◌==◌, if◌then◌else◌,
 use Rattle.std.specs.Option.{unwrap_or}
 use Rattle.unit_tree.specs.Canonical.{canonical_text}
 use Rattle.unit_tree.specs.Compositions.{default_rows, default_zeros}
-use Rattle.unit_tree.specs.Texts.{text_limit}
+use Rattle.model_rules.specs.Limits.{text_limit}
 use Rattle.unit_tree.specs.declared.system.System.{System}
 use Rattle.unit_upgrade.specs.declared.fault.UpgradeFault.{UpgradeFault}
 use Rattle.unit_upgrade.specs.declared.fault.UpgradeFault.TheVariants as fault

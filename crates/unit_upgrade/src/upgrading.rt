@@ -10,27 +10,21 @@ ghost use Rattle.unit_upgrade.specs.Upgrades.{IsRightFault, IsShortEnough, in_ve
 use crate::fault::UpgradeFault;
 use fixed_words::NoMemory;
 use itoa::Buffer;
+use model_rules::{LONGEST_TEXT, MOST_CELLS, MOST_ROWS};
 use std::alloc::Global;
 use unit_plain::copy_system;
 use unit_print::print_system;
-use unit_text::LONGEST_TEXT;
 use unit_tree::System;
 
 /// How many steps of length zero may follow each other in version 1, where that is not given.
 const DEFAULT_ZEROS: u32 = 100;
-
-/// How many rows a trace has at most in version 1, where that is not given and there are few instances.
-const MOST_ROWS: usize = 100_000;
-
-/// How many rows times instances there may be.
-const MOST_ROWS_IN_ALL: usize = 1_000_000;
 
 /// How many rows the trace of a system of version 1 has at most, where that is not given.
 fn default_rows(system: &System) -> u32
     requires { 1 ≤ length system.now.instances }
     ensures { result ≡ default_rows 1 (length system.now.instances) }
 {
-    MOST_ROWS.min(MOST_ROWS_IN_ALL / system.instances.len()) as u32
+    (MOST_ROWS as usize).min(MOST_CELLS as usize / system.instances.len()) as u32
 }
 
 /// How many bytes the line takes that is added where the budget of steps of length zero isn't given.

@@ -3,10 +3,8 @@ ghost use Rattle.unit_vm.specs.Tables.{row_behind, CanCount, IsCounted, HasLoops
 
 use crate::instruction::{Flow, Instruction};
 use fixed_words::{List, NoMemory};
+use model_rules::GREATEST_COST;
 use std::alloc::Global;
-
-/// The greatest cost of a part.
-const GREATEST_COST: u32 = 100_000;
 
 /// What is known of the loops around a place.
 #[derive(Clone, Copy)]

@@ -3,6 +3,7 @@ ghost use Rattle.unit_vm.specs.Instructions.{flow_of, takes, leaves, slots_of, i
 
 use crate::program::{Role, Sizes};
 use fixed_words::Ty;
+use model_rules::MOST_TURNS;
 
 /// An instruction of the stack machine. It takes its operands from the stack of words, the last one
 /// from the top.
@@ -150,7 +151,7 @@ impl Instruction {
                 <= 9,
             Instruction::ScaleUp(decimals) | Instruction::ScaleDown(decimals) => decimals <= 9,
             Instruction::Jump(distance) | Instruction::JumpFalse(distance) => 1 <= distance,
-            Instruction::Loop(count) => 1 <= count && count <= 1_000,
+            Instruction::Loop(count) => 1 <= count && count <= MOST_TURNS,
             Instruction::Give(ty) => is_known(ty),
             _ => true,
         }

@@ -9,6 +9,7 @@ use crate::heights::height_table;
 use crate::instruction::Instruction;
 use crate::program::{CodeFacts, Program, Role, Sizes};
 use fixed_words::{List, NoMemory};
+use model_rules::{MOST_INPUTS, MOST_LOCALS, MOST_OUTPUTS, MOST_STATES};
 use std::alloc::Global;
 
 /// The greatest heights of both stacks, and the greatest cost, of some parts.
@@ -145,7 +146,10 @@ fn is_sized(program: &Program) -> bool
     ensures { result ≡ is_sized program.now }
 {
     let sizes = program.sizes;
-    program.outputs.len() <= 32 && sizes.states <= 64 && sizes.inputs <= 32 && sizes.locals <= 64
+    program.outputs.len() <= MOST_OUTPUTS
+        && sizes.states <= MOST_STATES as u32
+        && sizes.inputs <= MOST_INPUTS as u32
+        && sizes.locals <= MOST_LOCALS as u32
 }
 
 /// The facts of a program, or none where it is not valid.

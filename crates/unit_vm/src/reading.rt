@@ -4,6 +4,7 @@ ghost use Rattle.unit_vm.specs.Reading.{small, type_at, instruction_in, code_in,
 use crate::instruction::Instruction;
 use crate::program::{Program, Sizes};
 use fixed_words::{List, NoMemory, Ty};
+use model_rules::MOST_OUTPUTS;
 use std::alloc::Global;
 
 /// A word as a small number, and 0 where it is none.
@@ -137,7 +138,7 @@ fn outputs_of(words: &[i64]) -> usize
     ensures number { result ≡ outputs_of words.now }
     ensures few { result ≤ 32 }
 {
-    number_at(words, 0).min(32) as usize
+    number_at(words, 0).min(MOST_OUTPUTS as u32) as usize
 }
 
 /// The place of an output's part, and the place behind the last.

@@ -15,7 +15,8 @@ use Rattle.unit_tree.specs.Parts as parts
 use Rattle.unit_tree.specs.Parts.{Part, text_forms, bare_system}
 use Rattle.unit_tree.specs.Printable.{is_event_port, IsInRange, IsPrintable, is_writable, names_on, step_depth}
 use Rattle.unit_tree.specs.SourceLines.{ReadsFrom}
-use Rattle.unit_tree.specs.Texts.{BeginsVersion2, HasFormIn, HaveForms, Reads, text_limit, line_limit}
+use Rattle.model_rules.specs.Limits.{line_limit, text_limit}
+use Rattle.unit_tree.specs.Texts.{BeginsVersion2, HasFormIn, HaveForms, Reads}
 use Rattle.unit_tree.specs.Tokens.{IsWord, IsName}
 use Rattle.unit_tree.specs.declared.expr.BinOp.TheVariants as by
 use Rattle.unit_tree.specs.declared.expr.Expr as expr

@@ -6,7 +6,8 @@ use Rattle.std.specs.List.{AllZip, list_all, sum_by}
 use Rattle.unit_tree.specs.Blocks.{no_lines, and_lines, may_stand}
 use Rattle.unit_tree.specs.LineForms.{HasForm, WritesForm, AreCountsInRange, is_of_version_2}
 use Rattle.unit_tree.specs.Lines.{lines_of, size_of, code_of, is_blank_line, has_forbidden_byte}
-use Rattle.unit_tree.specs.Texts.{line_limit, text_limit, BeginsVersion2, HasFormIn, HaveForms, HasNoForm, IsMisplaced, LineBreaks, IsFirstBroken, IsRefused}
+use Rattle.model_rules.specs.Limits.{line_limit, text_limit}
+use Rattle.unit_tree.specs.Texts.{BeginsVersion2, HasFormIn, HaveForms, HasNoForm, IsMisplaced, LineBreaks, IsFirstBroken, IsRefused}
 use Rattle.unit_tree.specs.Tokens.{Spells}
 use Rattle.unit_tree.specs.declared.line_form.LineForm.{LineForm}
 use Rattle.unit_tree.specs.declared.line_form.LineForm.TheVariants as form

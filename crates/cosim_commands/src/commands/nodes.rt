@@ -15,14 +15,12 @@ use cosim_call::{Served, Status, Stopped};
 use cosim_io::Sink;
 use fixed_words::List;
 use link_nodes::{Nodes, run_nodes};
+use model_rules::Rule;
 use std::alloc::Global;
 use std::sync::Arc;
 use trace_core::Plan;
 use trace_rows::CrewFault;
 use unit_tree::Ending;
-
-/// The rule of systems that are too large for two nodes.
-const SIZE_RULE: u8 = 34;
 
 /// How many words its rows may have, or how many instances these, at most.
 const LARGEST: u64 = 1_000_000;
@@ -94,7 +92,7 @@ pub(crate) fn serve<O: Sink>(
     if !is_small(&plan) {
         return Err(Stopped::Refused {
             line: 1,
-            rule: SIZE_RULE,
+            rule: Rule::NodesFit.number(),
         });
     }
     let nodes = run_pair(alloc, &plan, asked, out)?;

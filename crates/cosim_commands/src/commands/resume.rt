@@ -15,18 +15,13 @@ use crate::commands::run::{plan_of, status};
 use crate::note;
 use cosim_call::{Served, Stopped};
 use cosim_io::Sink;
+use model_rules::Rule;
 use save_point::{Saved, SavedFault, open_saved, read_saved};
 use serial_run::put_rest;
 use std::alloc::Global;
 use std::sync::Arc;
 use trace_core::{OpenFault, Plan, Run};
 use trace_rows::{CrewFault, Report};
-
-/// The rule of a text that saves no position.
-const SAVED_RULE: u8 = 32;
-
-/// The rule of a position at which no run of the system may stand.
-const FIT_RULE: u8 = 33;
 
 /// How many lines come before those of the states.
 const FIRST_LINES: u32 = 3;
@@ -39,7 +34,7 @@ fn saved_in(alloc: Global, text: &[u8]) -> Result<Saved, Stopped>
         Ok(saved) => Ok(saved),
         Err(SavedFault::Line { line }) => Err(Stopped::Refused {
             line,
-            rule: SAVED_RULE,
+            rule: Rule::PositionIsThere.number(),
         }),
         Err(SavedFault::NoMemory) => Err(Stopped::NoMemory),
     }
@@ -79,7 +74,7 @@ fn run_from(alloc: Global, plan: &Arc<Plan>, saved: &Saved) -> Result<Run, Stopp
         Ok(run) => Ok(run),
         Err(OpenFault::Misfit) => Err(Stopped::Refused {
             line: 1,
-            rule: FIT_RULE,
+            rule: Rule::PositionFits.number(),
         }),
         Err(OpenFault::NoMemory) => Err(Stopped::NoMemory),
     }

@@ -7,13 +7,11 @@ ghost use Rattle.command_line.specs.declared.commands.Command.TheVariants.{Save}
 use crate::commands::run::plan_of;
 use command_line::Saving;
 use cosim_call::Stopped;
+use model_rules::Rule;
 use save_point::{SaveFault, save_text};
 use std::alloc::Global;
 use std::sync::Arc;
 use trace_core::Plan;
-
-/// The rule of a trace that has no position of the number that is asked for.
-const POSITION_RULE: u8 = 31;
 
 /// The saved text of the position of a number in a plan's trace. A number that this hasn't is refused.
 fn saved_text(alloc: Global, plan: &Arc<Plan>, row: u64) -> Result<Vec<u8>, Stopped>
@@ -24,7 +22,7 @@ fn saved_text(alloc: Global, plan: &Arc<Plan>, row: u64) -> Result<Vec<u8>, Stop
         Ok(()) => Ok(out),
         Err(SaveFault::NoRow) => Err(Stopped::Refused {
             line: 1,
-            rule: POSITION_RULE,
+            rule: Rule::RowIsThere.number(),
         }),
         Err(SaveFault::NoMemory) => Err(Stopped::NoMemory),
     }

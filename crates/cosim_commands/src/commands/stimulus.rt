@@ -8,12 +8,10 @@ ghost use Rattle.std.specs.Prelude.{◌≤◌, length};
 
 use crate::commands::print::canonical;
 use cosim_call::Stopped;
+use model_rules::Rule;
 use std::alloc::Global;
 use stimulus_tables::{TableFault, stimulus};
 use unit_tree::System;
-
-/// The rule of tables that leave the form of a table of stimulus.
-const FORM_RULE: u8 = 36;
 
 /// The system that plays a table. One that leaves the form is refused, at the number of the record in place of a line.
 fn system_of(alloc: Global, table: &[u8]) -> Result<System, Stopped>
@@ -23,7 +21,7 @@ fn system_of(alloc: Global, table: &[u8]) -> Result<System, Stopped>
         Ok(system) => Ok(system),
         Err(TableFault::Form { number }) => Err(Stopped::Refused {
             line: number,
-            rule: FORM_RULE,
+            rule: Rule::TableHasForm.number(),
         }),
         Err(TableFault::NoMemory) => Err(Stopped::NoMemory),
     }

@@ -9,12 +9,10 @@ ghost use Rattle.unit_tree.specs.WellFormed.{IsWellFormed};
 use crate::commands::accept;
 use crate::commands::print::canonical;
 use cosim_call::Stopped;
+use model_rules::Rule;
 use std::alloc::Global;
 use unit_tree::System;
 use unit_upgrade::{UpgradeFault, upgrade};
-
-/// The rule of texts that are too long in version 2.
-const UPGRADE_RULE: u8 = 37;
 
 /// A system in version 2. One whose text is too long there is refused.
 fn upgraded(alloc: Global, system: &System) -> Result<System, Stopped>
@@ -26,7 +24,7 @@ fn upgraded(alloc: Global, system: &System) -> Result<System, Stopped>
         Ok(made) => Ok(made),
         Err(UpgradeFault::TooLong) => Err(Stopped::Refused {
             line: 1,
-            rule: UPGRADE_RULE,
+            rule: Rule::UpgradeFits.number(),
         }),
         Err(UpgradeFault::NoMemory) => Err(Stopped::NoMemory),
     }

@@ -11,11 +11,9 @@ use crate::commands::run::plan_of;
 use cosim_call::{Stopped, append_all};
 use fixed_words::NoMemory;
 use itoa::Buffer;
+use model_rules::Rule;
 use std::alloc::Global;
 use trace_verify::{Parted, Verdict, part, verify};
-
-/// The rule of an input without a line that parts a text from a table.
-const TABLE_RULE: u8 = 35;
 
 /// The text and the table of an input.
 fn parts_of(input: &[u8]) -> Result<Parted<'_>, Stopped>
@@ -25,7 +23,7 @@ fn parts_of(input: &[u8]) -> Result<Parted<'_>, Stopped>
         Some(parts) => Ok(parts),
         None => Err(Stopped::Refused {
             line: 1,
-            rule: TABLE_RULE,
+            rule: Rule::TraceIsThere.number(),
         }),
     }
 }

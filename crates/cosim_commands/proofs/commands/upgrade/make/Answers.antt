@@ -2,7 +2,7 @@ use Rattle.std.proofs.Common.{Err, sym, subst, inl, inr, refl, ap, ◌∙◌, le
 use Rattle.cosim_call.specs.Coming.{Makes}
 use Rattle.cosim_call.specs.declared.coming.Stopped.TheVariants as stopped
 use Rattle.unit_tree.specs.Printable.{IsPrintable}
-use Rattle.unit_tree.specs.Texts.{text_limit}
+use Rattle.model_rules.specs.Limits.{text_limit}
 use Rattle.unit_tree.specs.WellFormed.{IsWellFormed}
 use Rattle.unit_tree.specs.declared.system.System.{System}
 use Rattle.unit_upgrade.specs.Upgrades.{upgraded}
