@@ -12,7 +12,7 @@ use Rattle.unit_tree.specs.Effects.{Effect, stored, times}
 use Rattle.unit_tree.specs.declared.environment.Environment.{Environment}
 use Rattle.unit_tree.specs.declared.environment.Variable.{Variable}
 
--- Words behind others, where there was no fault.
+-- Words after other words, where there was no fault.
 abbrev pub behind : List ℤ → Result (List ℤ) Fault → Result (List ℤ) Fault
 behind front changed = changed >>= λ words. Ok (front ++ words)
 

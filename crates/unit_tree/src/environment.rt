@@ -15,9 +15,9 @@ pub struct Variable {
     pub ty: Ty,
 }
 
-/// What expressions and step lines of a component see: its variables with their words, the local time
-/// `t`, the local step `h`, and the length of the step that it accepts, which is `h` until a line
-/// accepts another.
+/// What expressions and step lines of a component can read: its variables with their words, the local
+/// time `t`, the local step `h`, and the accepted length. The accepted length is `h` until a line
+/// accepts another length.
 #[derive(Debug, Drop)]
 pub struct Environment {
     pub variables: List<Variable>,
