@@ -1,4 +1,4 @@
--- Static cost: the number of nodes that a call can evaluate at most, by the structure of its trees. Lines in a
+-- Static cost: a number for each call that is computed from its trees alone, without running it. Lines in a
 -- `repeat` count as often as they are repeated.
 use Rattle.std.specs.Prelude.{ℕ, ◌+◌, ◌*◌, List, map, Option, Some, None}
 use Rattle.std.specs.List.{sum}
@@ -8,7 +8,7 @@ use Rattle.unit_tree.specs.declared.line.Line.{Line, fold-Line}
 use Rattle.unit_tree.specs.declared.line.Line.TheOpen.{Line-F}
 
 -- One node, whose parts are given as their costs: a leaf is 1; an operation or a call is the sum of its operands
--- and 1. Both choices of an `if` count.
+-- and 1; an `if` is the sum of its condition and both choices, and 2.
 abbrev pub node_cost : Expr-F ℕ → ℕ
 node_cost (Expr-F.Unary op arg) = arg + 1
 node_cost (Expr-F.Binary op left right) = left + right + 1

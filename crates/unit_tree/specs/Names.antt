@@ -110,7 +110,7 @@ pub record Port : Type 0 where
   pub is_event : Bool
   pub needs : List (List ℕ)
 
--- The inputs of a unit by declaration, in which event inputs come after the plain ones.
+-- The inputs of a unit in the order of declaration, with event inputs after the plain ones.
 abbrev pub input_ports : Unit → List Port
 input_ports unit =
     map (λ input. record { name = input.name; ty = input.ty; is_event = false; needs = [] }) unit.inputs

@@ -31,7 +31,7 @@ abbrev pub starts_at : InputAt × InputSource → Option StartWord
 starts_at (at, Start word) = Some (record { at = at; word = word })
 starts_at (at, AtPlace place) = None
 
--- Each output of a composition: its instance, its number there, and the places that it needs.
+-- Each output of a composition: its instance, its number there, and the places that it depends on directly.
 pub record Numbered : Type 0 where
   pub instance : ℕ
   pub output : ℕ

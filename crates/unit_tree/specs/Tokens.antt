@@ -113,7 +113,7 @@ abbrev pub begins_with_fraction : List ℕ → Bool
 begins_with_fraction [] = false
 begins_with_fraction (byte ∷ bytes) = (byte == 46) && begins_with is_digit bytes
 
--- The symbol is the longest one that these bytes could end.
+-- No longer symbol begins where this symbol, followed by these bytes, does.
 abbrev pub IsLongest : Symbol → List ℕ → Type 0
 IsLongest symbol rest =
     (other : Symbol) (after : List ℕ) → symbol_text symbol ++ rest ≡ symbol_text other ++ after → length (symbol_text other) ≤ length (symbol_text symbol)
