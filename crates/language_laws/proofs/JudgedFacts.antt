@@ -1,4 +1,5 @@
--- What the rules that a judged system keeps say of inputs, of connections and of what outputs use.
+-- What follows for a judged system from the rules about inputs, connections and the names that
+-- outputs use.
 use Rattle.std.proofs.Common.{◌≡◌, ℕ, true, false, List, [], ◌∷◌, ◌++◌, append_assoc, map, Some, refl, ap, subst}
 use Rattle.std.specs.Prelude.{is_none}
 use Rattle.std.specs.List.{AllByRecursion, flat_map}

@@ -1,4 +1,5 @@
--- Names that are declared once: what the first rule of a well-formed system says of instances and of outputs.
+-- Names that are declared once: what follows from the first rule of a well-formed system for instances and for
+-- outputs.
 use Rattle.std.proofs.Common.{◌≡◌, ℕ, ◌+◌, Bool, true, false, List, [], ◌∷◌, ◌++◌, append_assoc, map, Option, Some, None, inl, inr, refl, ap, sym, subst, ◌∙◌}
 use Rattle.std.proofs.Common.{◌⊎◌}
 use Rattle.std.specs.Prelude.{not, is_none, ◌&&◌, ◌||◌, cond, ⊤}
@@ -328,7 +329,8 @@ module _ (system : System) where
 
 -- ---- Needs and connections
 
--- Each need of an output is an input of its unit, a connection comes from an output, and no two lead to one input.
+-- Each need of an output is an input of its unit, a connection comes from an output, and no two connections have
+-- the same input.
 pub record Wired (system : System) : Type 0 where
   pub needs : AllByRecursion (λ unit. AllByRecursion (λ output. are_among (input_names unit) output.needs ≡ true) unit.outputs) system.units
   pub from : AllByRecursion (λ wire. is_none (output_at system wire.from) ≡ false) system.wires

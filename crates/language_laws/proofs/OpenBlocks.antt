@@ -1,4 +1,4 @@
--- What lines leave behind them: the lines before the next one, and the open blocks; and that a step line stands in its step.
+-- What is after given lines: the lines before the next one, and the open blocks; and that a step line is in its step.
 use Rattle.std.specs.Prelude.{⊤}
 use Rattle.std.proofs.Common.{◌≡◌, ℕ, true, false, List, [], ◌∷◌, ◌++◌, append_assoc, map, Some, None, refl, ap, sym, subst, ◌∙◌, append-nil}
 use Rattle.std.specs.List.{flat_map, fold}
@@ -25,14 +25,14 @@ pub all_in_text : (lines : List LineForm) (before : Before) → (and_lines befor
 all_in_text [] before = sym (append-nil before.in_text)
 all_in_text (some ∷ lines) before = all_in_text lines (and_line before some) ∙ append_assoc before.in_text (some ∷ []) lines
 
--- The open blocks behind lines are told from those before them alone.
+-- The open blocks after lines depend only on those before them.
 pub blocks_behind : (before : Before) (lines : List LineForm) → (and_lines before lines).open_blocks ≡ fold behind before.open_blocks lines
 blocks_behind before [] = refl
 blocks_behind before (line ∷ lines) = blocks_behind (and_line before line) lines
 
 -- ---- Lines of one scope
 
--- Each of the lines, behind those before it, has the scope.
+-- Each of the lines, after those before it, has the scope.
 abbrev pub AreIn : Scope → List Block → List LineForm → Type 0
 AreIn scope blocks [] = ⊤
 AreIn scope blocks (line ∷ lines) = (is_scope_in blocks scope line ≡ true) × AreIn scope (behind blocks line) lines
@@ -128,7 +128,7 @@ in_step-Repeat count body =
           (in_step_scope unit blocks (form.Repeat count) is refl, block_in unit body (form.End ∷ []) (InRepeat ∷ blocks) refl (refl, _));
     }
 
--- `if` with what stands behind its lines, which begins the `else` or is the `end`.
+-- The lines of an `if`, with what follows the lines of its block, which begins the `else` or is the `end`.
 abbrev pub if_forms : Expr → List Stepped → List LineForm → List LineForm
 if_forms condition then_lines rest = form.If condition ∷ forms_in then_lines ++ rest
 

@@ -1,4 +1,5 @@
--- Outputs on a cycle stand in no orderly list: all that an output of one depends on comes before it.
+-- Outputs on a cycle are in no orderly list: all that an output of such a list depends on comes
+-- before it.
 use Rattle.std.proofs.Common.{◌≡◌, List, [], ◌∷◌, ◌++◌, append_assoc, inl, inr, refl, ap, sym, subst}
 use Rattle.std.specs.List.{AllByRecursion}
 use Rattle.std.proofs.lemmas.List.{append-nil}
@@ -83,7 +84,7 @@ comes_before system port other (through port' between other' direct later) order
       holds = subst (λ front. IsIn front other) (sym inner.cut) (in_front inner.front inner.behind other inner.holds);
     }
 
--- A port that depends on one which stands in no orderly list stands in none.
+-- A port that depends on one which is in no orderly list is in none.
 pub behind_cycle : (system : System) (port other : PortName) → DependsOn system port other → HasNoOrder system other → HasNoOrder system port
 behind_cycle system port other depends on_it order orderly stands =
     let before = comes_before system port other depends order orderly stands in

@@ -197,7 +197,7 @@ plain_line_cost = ind-Line SameCost (λ x y is. subst (λ z. SameCost (roll-Line
 
 -- ---- By its choices
 
--- What the fold keeps as the whole is the expression.
+-- The expression that the fold keeps is the whole expression.
 abbrev pub IsWhole : Expr → Type 0
 IsWhole value = (gap : Expr) (change : Expr → Expr) → (fold-Expr Choices (node_choices gap change) value).whole ≡ value
 

@@ -1,4 +1,5 @@
--- Names of a system in range are words, so that none is that of the port which tells whether an event occurs.
+-- Names of a system in range are words, so none is the name of a port `p?` that is true where an event
+-- occurs.
 use Rattle.std.proofs.Common.{◌≡◌, ℕ, true, false, List, [], ◌∷◌, ◌++◌, map, inl, inr, refl, ap, sym, subst, ◌∙◌}
 use Rattle.std.proofs.lemmas.Bool.{and_parts}
 use Rattle.std.specs.List.{AllByRecursion, flat_map, list_all}

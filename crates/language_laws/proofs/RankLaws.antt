@@ -12,7 +12,7 @@ use Rattle.unit_tree.specs.Parts.{Part, UnitPart, unit_part_forms, part_forms, t
 use Rattle.unit_tree.specs.SourceLines.{unit_part_rank, part_rank, of_rank, by_rank, each_ranked, unit_lines_in_order, part_lines_in_order, in_canonical_order}
 use Rattle.unit_tree.specs.declared.line_form.LineForm.{LineForm}
 
--- ---- A rank that stands once
+-- ---- A rank that occurs once
 
 abbrev pub not_in : ℕ → List ℕ → Bool
 not_in rank [] = true

@@ -1,4 +1,4 @@
--- The lines of a unit of a system that is in range and well-formed, with what the rules say of each.
+-- The lines of a unit of a system that is in range and well-formed, with what the rules state of each.
 use Rattle.std.proofs.Common.{◌≡◌, ℕ, zero, suc, false, List, [], ◌∷◌, ◌++◌, map, Some, slice_get, sym, subst}
 use Rattle.std.specs.List.{AllByRecursion, flat_map}
 use Rattle.unit_tree.specs.Canonical.{unit_parts}

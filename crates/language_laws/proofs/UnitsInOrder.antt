@@ -1,4 +1,4 @@
--- The lines of a unit, put into canonical order, are the canonical lines of what it says.
+-- The lines of a unit, in canonical order, are the canonical lines of the unit.
 use Rattle.std.proofs.Common.{◌≡◌, ℕ, ◌≤◌, Bool, true, false, List, [], ◌∷◌, ◌++◌, append_assoc, map, length, drop, refl, ap, sym}
 use Rattle.std.proofs.Common.{◌∙◌, arith}
 use Rattle.std.specs.Prelude.{◌==◌}
@@ -16,7 +16,7 @@ use Rattle.language_laws.proofs.PartsSaidOnce.{UnitSaysOnce}
 
 -- ---- Lines that go along with themselves
 
--- Each part with its own lines, whatever comes behind.
+-- Each part with its own lines, whatever follows them.
 pub own_lines : {P : Type 0} (rank : P → ℕ) (forms : P → List LineForm) (inside : P → List LineForm → List LineForm) (all : List P) (extra : List LineForm)
     → each_ranked rank (λ part. length (forms part)) inside all (flat_map forms all ++ extra) ≡ map (λ part. (rank part, inside part (forms part))) all
 own_lines rank forms inside [] extra = refl
