@@ -83,7 +83,7 @@ word_same one other outlet agree =
 
 -- ---- The right sides are equations
 
--- What stands at a place of a list that is mapped.
+-- The element at a place of a list that is mapped.
 pub needs_here : (run : Composition) (states : List (List ℤ)) (place : ℕ) (outlet : Outlet) → length states ≡ length run.members
     → slice_get (outlets run states) place ≡ Some outlet → needs_at run place ≡ needs_of outlet
 needs_here run states place outlet one_each is =

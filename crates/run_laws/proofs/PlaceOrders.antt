@@ -70,7 +70,7 @@ pub place_by : (told : Bool) (port first : PortName) (later k : ℕ) → same_po
 place_by true port first later k is other same = absurd (other (sym (same_port_is port first is)))
 place_by false port first later k is other same = omega arith
 
--- Where ports differ, what stands at a place has it as its place.
+-- If ports differ, the place of the port at a place is this place.
 pub place_is : (ports : List PortName) (k : ℕ) (port : PortName) → Distinct ports → slice_get ports k ≡ Some port → position_or_len (same_port port) ports ≡ k
 place_is [] k port apart is = absurd (cc)
 place_is (first ∷ ports) zero port apart is =

@@ -326,7 +326,7 @@ has_source (first ∷ wires) port wire (inr has) to =
 abbrev pub presence_wire : Wire → Wire
 presence_wire wire = record { from = presence_port wire.from; to = presence_port wire.to }
 
--- A connection of the plain form is one of the system, or that of the two ports which tell of an event.
+-- A connection of the plain form is one of the system, or connects the two `?` ports of event ports.
 pub wire_by : (told : Bool) (wire plain : Wire) → Has (cond told (presence_wire wire ∷ wire ∷ []) (wire ∷ [])) plain
     → (wire ≡ plain) ⊎ ((told ≡ true) × (presence_wire wire ≡ plain))
 wire_by true wire plain (inl is) = inr (refl, is)
@@ -429,7 +429,7 @@ module _ (system : System) (ranged : IsRanged system) (kept : IsWellFormed syste
       → unit_of_instance plain instance ≡ Some (plain_unit unit)
   plain_unit_is instance unit is = plain_named system.units instance.unit ∙ ap (option_map plain_unit) is
 
-  -- What an orderly list asks of an output of the plain form that comes next.
+  -- What an orderly list requires of an output of the plain form that comes next.
   abbrev pub Next : List PortName → PortName → Type 0
   Next before made = IsIn (outputs_of plain) made × (IsIn (splits before) made → ⊥) × AllByRecursion (IsIn (splits before)) (needed_by plain made)
 
@@ -497,7 +497,8 @@ module _ (system : System) (ranged : IsRanged system) (kept : IsWellFormed syste
         (has_flat (λ input. sources_of system (to_input input)) output.needs need wire.from need_has
         (has_source system.wires (to_input need) wire wire_has to)))
 
-    -- The source of a connection of the plain form stands in front where the outputs that the port needs do in the system.
+    -- The source of a connection of the plain form comes before, if the outputs that the port depends on do in the
+    -- system.
     source_in : (before : List PortName) (wire made : Wire) (need input : List ℕ) → AllByRecursion (IsIn before) (needed_by system port)
         → Has system.wires wire → Has output.needs need → made.to ≡ to_input input
         → (wire ≡ made) ⊎ ((is_event_output system wire.from ≡ true) × (presence_wire wire ≡ made)) → (need ≡ input) ⊎ (presence_name need ≡ input)
@@ -606,7 +607,7 @@ module _ (system : System) (ranged : IsRanged system) (kept : IsWellFormed syste
       (subst (λ front. IsOrderlyAfter plain front (splits later)) (splits_longer before port)
       (ordered (before ++ (port ∷ [])) later (each_more (IsIn (outputs_of system)) before port outputs orderly.0) orderly.3))
 
-  -- ---- All outputs of the plain form stand there
+  -- ---- All outputs of the plain form are there
 
   pub made_has : (instance : Instance) (unit : Unit) (output : Port) (come : Comes unit output) → Has system.instances instance
       → unit_of_instance system instance ≡ Some unit

@@ -68,7 +68,7 @@ next_is_nearer run stand are words within none =
     let at_most = agreed_is_at_most run stand.at stand.ports are words in
     nearer_by (h == 0) run stand.at.point h within.stop within.zeros (omega (arith, allowed, at_most)) refl open_budget
 
--- ---- Where a stand goes on to
+-- ---- The next stand
 
 pub position_by : (end : Option Ending) (position next : Position) → ends_or end position ≡ goes next → position ≡ next
 position_by None position next is = cc
