@@ -43,7 +43,7 @@ use Rattle.event_runs.proofs.SlotLaws.{Slot, Same, Tells, source_variables, sour
 use Rattle.event_runs.proofs.SlotLaws.{same_front}
 use Rattle.event_runs.proofs.ValueLaws.{Given, same}
 
--- The word that stands for no event is one of each type.
+-- The word that is used where no event occurs is a word of each type.
 pub zero_given : (ty : Ty) → given_as ty (zero_value ty) ≡ Ok (pos 0)
 zero_given types.Int8 = refl
 zero_given types.UInt8 = refl

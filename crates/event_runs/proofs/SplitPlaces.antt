@@ -172,7 +172,7 @@ module _ (system : System) (ranged : IsRanged system) (kept : IsWellFormed syste
   pub place_of_presence : (port : PortName) → event port ≡ true → place_of plain (presence_port port) ≡ plain_place shape (place_of system port)
   place_of_presence port is_event = ap (place (presence_port port)) split_outputs ∙ presence_at port (outputs_of system) output_names is_event
 
-  -- Whether it is an event output stands at its place.
+  -- The shape has at the place of an output whether it is an event output.
   pub shape_at_place : (port : PortName) → IsIn (outputs_of system) port → slice_get shape (place_of system port) ≡ Some (event port)
   shape_at_place port stands = slice_get-map event (outputs_of system) (place_of system port) ∙ ap (option_map event) (found_at (outputs_of system) port stands)
 
@@ -233,7 +233,7 @@ module _ (system : System) (ranged : IsRanged system) (kept : IsWellFormed syste
       (tells_among port wires (λ other has. names other (inr has)) (λ other has. each other (inr has)))
       ∙ mapped_on (source_if port wire) (filter_map (source_if port) wires)
 
-  -- What tells of an event input comes from what tells of the outputs that it is connected to, which are event outputs.
+  -- The source of the `?` port of an event input is the `?` port of the event output that is connected to it.
   pub sources_of_presence : (port : PortName) → ((wire : Wire) → Has system.wires wire → wire.to ≡ port → event wire.from ≡ true)
       → sources_of plain (presence_port port) ≡ map presence_port (sources_of system port)
   sources_of_presence port each = tells_among port system.wires (λ wire has. plain_wire system ranged wire has) each

@@ -41,7 +41,7 @@ initial_states : (shape : _) (members : List EventMember)
 initial_states shape [] = refl
 initial_states shape (one ∷ members) = ap (λ rest. initial one.member.component ∷ rest) (initial_states shape members)
 
--- ---- Ends that both forms have alike
+-- ---- Endings that are the same in both forms
 
 module _ (members : List EventMember) where
   abbrev Keeps : Option Ending → Type 0
