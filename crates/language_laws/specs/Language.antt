@@ -1,5 +1,5 @@
--- Laws of the language. The last one is proved by what orders the outputs. What a reader of texts owes stands with the
--- reader.
+-- Laws of the language. The last one is proved by the crate that orders the outputs. Laws about the reader of texts are
+-- in the reader's crate.
 use Rattle.std.specs.Prelude.{◌≡◌, ◌⊎◌, ◌↔◌, ℕ, List, ◌∷◌, ◌++◌, map, length, Some, None, IsTrue}
 use Rattle.std.specs.List.{flat_map}
 use Rattle.std.specs.List.Sorted.{IsPermutation}
@@ -18,8 +18,8 @@ use Rattle.unit_tree.specs.declared.expr.Expr.{Expr}
 use Rattle.unit_tree.specs.declared.system.PortName.{PortName}
 use Rattle.unit_tree.specs.declared.system.System.{System}
 
--- Every system is well-formed or refused, and not both: there is no refusal exactly where it is well-formed, and a
--- refusal names the least rule that a line breaks, and the first line that breaks it. No other does.
+-- Every system is well-formed or refused, and not both. It is well-formed exactly where there is no refusal. A refusal
+-- names the least rule that a line breaks, and the first line that breaks it; there is no other refusal.
 pub record SystemsAreJudgedOnce : Type 0 where
   pub well_formed : (system : System) → IsWellFormed system ↔ (refusal_of system ≡ None)
   pub refused : (system : System) (refusal : Refusal) → refusal_of system ≡ Some refusal → IsRefusal rules system refusal
