@@ -1,4 +1,4 @@
--- The token at the front of bytes is the one token that they begin with.
+-- The token that is found at the beginning of bytes is the one token that they begin with.
 use Rattle.std.proofs.Common.{◌≡◌, ℕ, suc, zero, ◌^◌, ◌<◌, ◌≤◌, Bool, true, false, not, cond, ◌&&◌, List, [], ◌∷◌, ◌++◌, length, take, drop, refl, ap, sym, ◌∙◌}
 use Rattle.std.proofs.Common.{arith, ◌==◌, nat_lt, Option, Some, None, append_assoc, option_and_then, IsTrue}
 use Rattle.std.specs.List.{list_all, prefix_len}
@@ -228,7 +228,7 @@ token_apart (token.Name name) text rest spelled = rw spelled.0 (word_apart name 
 token_apart (token.Number digits decimals) text rest spelled = number_apart digits decimals text rest spelled
 token_apart (token.Symbol symbol) text rest spelled = rw spelled (sign_apart (symbol_text symbol) rest (symbol_is_text symbol))
 
--- the bytes behind the blanks
+-- the bytes after the blanks
 abbrev pub behind_blanks : List ℕ → List ℕ
 behind_blanks line = drop (prefix_len is_blank line) line
 
@@ -553,7 +553,7 @@ tokens_none line some e (token ∷ others) (after, begins, more) =
     let read = first_again line token after begins in
     absurd cc
 
--- what the rest spells, behind the tokens so far, is what the line spells
+-- the tokens of the rest, after the tokens so far, are the tokens of the line
 pub record Completes (line : List ℕ) (tokens : List Token) (rest : List ℕ) : Type 0 where
   pub by : (found : Option (List Token)) → TokensAre rest found → TokensAre line (option_map (λ others. tokens ++ others) found)
 
