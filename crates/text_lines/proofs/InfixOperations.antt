@@ -1,4 +1,5 @@
--- Infix operations: what a token says of one, and an expression read as its first operand and the operations behind.
+-- Infix operations: the operation of a token, and an expression read as its first operand and the operations after
+-- it.
 use Rattle.std.proofs.Common.{◌≡◌, ℕ, suc, zero, ◌+◌, ◌<◌, ◌≤◌, Bool, true, false, cond, List, [], ◌∷◌, ◌++◌, Option, Some, None, refl, ap, sym, ◌∙◌, arith}
 use Rattle.std.proofs.Common.{◌&&◌}
 use Rattle.std.specs.Prelude.{IfSome, option_and_then}
@@ -16,7 +17,7 @@ use Rattle.text_lines.specs.Expressions.{Reader, Front, infix_symbol, infix_keyw
 
 -- ---- Operations
 
--- Whether an operation stands between its operands.
+-- Whether an operation is written between its operands.
 abbrev pub is_infix : BinOp → Bool
 is_infix by.Min = false
 is_infix by.Max = false
@@ -105,7 +106,7 @@ strongest Primary = omega arith
 
 -- ---- The operation that comes first
 
--- An operation that comes first is spelled there, and stands where the grammar asks for the level.
+-- An operation that comes first is spelled there, and is allowed where the grammar requires the level.
 pub record Takes (asked left : Level) (tokens : List Token) (found : BinOp × List Token) : Type 0 where
   pub spelled : tokens ≡ operation found.0 ∷ found.1
   pub between : is_infix found.0 ≡ true
@@ -133,7 +134,7 @@ pub infix_at_is : (asked left : Level) (tokens : List Token) → IfSome (infix_a
 infix_at_is asked left [] = tt
 infix_at_is asked left (first ∷ rest) = takes_by asked left first rest (infix_of first) (infix_is first)
 
--- The right side of an operation that is found is on a stronger level than the one asked for.
+-- The right side of an operation that is found is on a stronger level than the required one.
 rises_by : (asked left : Level) (tokens : List Token) (found : Option (BinOp × List Token)) (op : BinOp) (rest : List Token)
     → IfSome found (Takes asked left tokens) → found ≡ Some (op, rest) → strength asked < strength (right_level (binary_level op))
 rises_by asked left tokens None op rest is same = absurd (cc)
@@ -155,7 +156,7 @@ pub then_same : {A B : Type 0} (found : Option A) (f g : A → Option B) → ((x
 then_same None f g same = refl
 then_same (Some x) f g same = same x
 
--- Two readers that agree on every right side that is asked for.
+-- Two readers that agree on every right side that is required.
 abbrev Agree : Reader → Reader → Level → Type 0
 Agree one other asked = (op : BinOp) (tokens : List Token) → is_infix op ≡ true → allows asked (binary_level op) ≡ true
     → one (right_level (binary_level op)) tokens ≡ other (right_level (binary_level op)) tokens
@@ -172,7 +173,7 @@ agree_by one other asked f g left (Some (op, behind)) same next is =
     ∙ then_same (other (right_level (binary_level op)) behind) (λ right. f (expr.Binary op left.0 right.0, binary_level op, right.2))
     (λ right. g (expr.Binary op left.0 right.0, binary_level op, right.2)) on
 
--- With all the operations behind a left side two readers that agree give the same.
+-- Two readers that agree give the same with all the operations after a left side.
 climb_agree : (one other : Reader) (asked : Level) (turns : List Token) (left : Front) → Agree one other asked
     → climb one asked turns left ≡ climb other asked turns left
 climb_agree one other asked [] left same = refl
@@ -193,7 +194,7 @@ steady inner (suc levels_left) asked tokens enough =
     let bound = allows_is asked (binary_level op) allowed in
     steady inner levels_left (right_level (binary_level op)) behind (omega arith)))
 
--- An expression is its first operand with the infix operations behind it.
+-- An expression is its first operand with the infix operations after it.
 pub read_step : (budget : ℕ) (asked : Level) (tokens : List Token)
     → read budget asked tokens ≡ option_and_then (λ left. climb (read budget) asked left.2 left) (operand_at (deeper budget) asked tokens)
 unfolding read within

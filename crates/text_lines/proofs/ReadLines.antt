@@ -67,7 +67,7 @@ declaration_again : (name : List ℕ) (ty : Ty) (rest : List Token) → AreDecim
 unfolding declaration_at
 declaration_again name ty rest few = rw (type_again ty rest few) refl
 
--- The names behind the first, each behind a comma.
+-- The names after the first, each after a comma.
 abbrev behind_first : List (List ℕ) → List Token
 behind_first [] = []
 behind_first (name ∷ names) = symbol sign.Comma ∷ token.Name name ∷ behind_first names
@@ -179,12 +179,12 @@ form_again (form.Sample port) tail is counts = rw is refl
 pub form_written : (some : LineForm) (tokens : List Token) → WritesForm some tokens → read_form tokens ≡ Some some
 form_written some tokens is = ap read_form is.spelled ∙ form_again some is.tail is.tail_is is.counts
 
--- What is read says what the tokens write.
+-- The result of the definition of reading states what the tokens write.
 pub form_said : (tokens : List Token) (found : Option LineForm) → read_form tokens ≡ found → FormIs tokens found
 form_said tokens (Some some) same = written_form some tokens same
 form_said tokens None same = λ some written. let is = form_written some tokens written in absurd (cc)
 
--- The answer of reading says what the tokens write.
+-- The result of reading states what the tokens write.
 pub reads_as : (tokens : List Token) (result : Result LineForm Unread) → Gives result (read_form tokens) → ReadsAs result (FormIs tokens)
 reads_as tokens (Ok some) gives = form_said tokens (Some some) gives
 reads_as tokens (Err unread.NoForm) gives = form_said tokens None gives

@@ -131,7 +131,7 @@ port_at_is tokens =
     then_holds (name_at behind) _ _ (IsPort tokens) (name_at_is behind) (λ port is.
     ap (λ all. token.Name instance.0 ∷ symbol sign.Point ∷ all) is ∙ ap (λ all. token.Name instance.0 ∷ all) point ∙ named)))
 
--- A name more comes behind a comma.
+-- One more name comes after a comma.
 names_and_one : (first next : List ℕ) (names : List (List ℕ))
     → names_tokens (first ∷ names ++ (next ∷ [])) ≡ names_tokens (first ∷ names) ++ (symbol sign.Comma ∷ token.Name next ∷ [])
 names_and_one first next [] = refl
@@ -191,7 +191,7 @@ expression_is tokens = if_found (read_expression tokens) (λ value. Writes value
 abbrev Written : List Token → LineForm → Type 0
 Written tokens some = WritesForm some tokens
 
--- A form that has no tail is written by its front.
+-- A form that has no literal and no expression at its end is written by its first tokens alone.
 last_is : (some : LineForm) (rest tokens : List Token) → tail_of some ≡ Nothing → front_tokens some ++ rest ≡ tokens → AreCountsInRange some
     → IfSome (last some rest) (Written tokens)
 last_is some [] tokens none spelled counts = record {

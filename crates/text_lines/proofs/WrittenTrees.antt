@@ -25,7 +25,7 @@ read_written tree tokens is =
     ∙ ap whole_tree (read_again is.phrase 64 Whole [] whole.0 (grind (arith, nat_tests)) numbers.1 tt)
     ∙ ap Some is.is_tree
 
--- A front with no token behind it is written.
+-- What was read is written by the tokens, if no token is left.
 written_by : (tree : Expr) (tokens : List Token) (found : Option Front) → IfSome found (IsFront 65 Whole tokens) → whole_tree found ≡ Some tree
     → Writes tree tokens
 written_by tree tokens None is same = absurd (cc)
@@ -45,19 +45,18 @@ pub written_read : (tree : Expr) (tokens : List Token) → read_expression token
 unfolding read_expression
 written_read tree tokens same = written_by tree tokens (read 64 Whole tokens) (read_is 64 Whole tokens) same
 
--- What is read says what the tokens write.
+-- The result of the definition of reading states what the tokens write.
 pub expression_is : (tokens : List Token) (found : Option Expr) → read_expression tokens ≡ found → ExpressionIs tokens found
 expression_is tokens (Some tree) same = written_read tree tokens same
 expression_is tokens None same = λ tree written. let is = read_written tree tokens written in absurd (cc)
 
--- The answer of reading says what the tokens write.
+-- The result of reading states what the tokens write.
 pub reads_as : (tokens : List Token) (result : Result Expr Unread) → Gives result (read_expression tokens) → ReadsAs result (ExpressionIs tokens)
 reads_as tokens (Ok tree) gives = expression_is tokens (Some tree) gives
 reads_as tokens (Err unread.NoForm) gives = expression_is tokens None gives
 reads_as tokens (Err unread.NoMemory) gives = tt
 
--- Tokens write an expression, or none.
--- What says what they write decides it.
+-- It is decided whether tokens write an expression.
 decided_by : (tokens : List Token) (found : Option Expr) → ExpressionIs tokens found
     → ((tree : Expr) × Writes tree tokens) ⊎ ((tree : Expr) → Writes tree tokens → ⊥)
 decided_by tokens (Some tree) is = inl (tree, is)
