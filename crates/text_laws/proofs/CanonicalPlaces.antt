@@ -1,4 +1,4 @@
--- Each canonical line may stand where it does.
+-- Each canonical line is allowed where it is.
 use Rattle.std.proofs.Common.{◌≡◌, ℕ, Bool, true, false, cond, not, nat_le, List, [], ◌∷◌, ◌++◌, append_assoc, map, Option, Some, None, IsTrue, refl, ap, sym}
 use Rattle.std.proofs.Common.{subst, ◌∙◌}
 use Rattle.std.specs.Prelude.{◌||◌}
@@ -31,9 +31,9 @@ use Rattle.text_laws.proofs.PlacedParts.{may_follow, is_shallow, unit_part_may_s
 use Rattle.text_laws.proofs.SpelledBytes.{all_pass}
 use Rattle.list_laws.proofs.Lists.{all_of_two}
 
--- ---- Parts behind others
+-- ---- Parts after others
 
--- Parts may stand one behind the other where the first ones do, and the others behind them.
+-- Parts are allowed in a row if the first ones are, and the others after them.
 may_follow_both : {P : Type 0} (forms : P → List LineForm) (may : Before → P → Bool) (xs ys : List P) (before : Before)
     → may_follow forms may before xs ≡ true → may_follow forms may (and_lines before (flat_map forms xs)) ys ≡ true
     → may_follow forms may before (xs ++ ys) ≡ true
@@ -45,7 +45,7 @@ may_follow_both forms may (part ∷ xs) ys before on_xs on_ys =
     (may_follow_both forms may xs ys after both.1
     (subst (λ now. may_follow forms may now ys ≡ true) (fold-append and_line before (forms part) (flat_map forms xs)) on_ys))
 
--- Parts that may stand behind whatever is there.
+-- Parts that are allowed after any lines.
 each_follows : {A P : Type 0} (forms : P → List LineForm) (may : Before → P → Bool) (part : A → P)
     → ((one : A) (before : Before) → may before (part one) ≡ true) → (all : List A) (before : Before) → may_follow forms may before (map part all) ≡ true
 each_follows forms may part free [] before = refl
@@ -53,7 +53,7 @@ each_follows forms may part free (one ∷ all) before =
     and_from (may before (part one)) (may_follow forms may (and_lines before (forms (part one))) (map part all)) (free one before)
     (each_follows forms may part free all (and_lines before (forms (part one))))
 
--- A part that may stand there, or none.
+-- An optional part that is allowed there.
 optional_follows : {A P : Type 0} (forms : P → List LineForm) (may : Before → P → Bool) (part : A → P) (given : Option A) (before : Before)
     → ((one : A) → may before (part one) ≡ true) → may_follow forms may before (optional part given) ≡ true
 optional_follows forms may part None before free = refl
@@ -171,14 +171,15 @@ with_max_and_step front start limit lines first bare shallow =
     step_follows (Some all) before shallow none =
         and_from (unit_part_may_stand before (parts.Step all)) true (and_from (not (has_rival before form.Step)) (is_shallow all) none shallow) refl
 
--- A part that declares a name may stand everywhere in a unit, and begins with other words than those.
+-- A part that declares a name is allowed everywhere in a unit, and begins with other keywords than
+-- those.
 declares : {A : Type 0} (part : A → UnitPart) → ((one : A) (before : Before) → unit_part_may_stand before (part one) ≡ true)
     → ((one : A) → list_any opens_unit (unit_part_forms (part one)) ≡ false)
     → ((one : A) (value : Expr) → list_any (are_alike (form.Max value)) (unit_part_forms (part one)) ≡ false)
     → ((one : A) → list_any (are_alike form.Step) (unit_part_forms (part one)) ≡ false) → Declares part
 declares part free no_unit no_max no_step = record { free = free; no_unit = no_unit; no_max = no_max; no_step = no_step }
 
--- The canonical parts of a unit may stand in it.
+-- The canonical parts of a unit are allowed in it.
 unit_parts_may_stand : (unit : Unit) (start : Before) → start.in_unit ≡ [] → nat_le (step_depth unit.step) 16 ≡ true
     → inside_may_stand start (unit_parts unit) ≡ true
 unit_parts_may_stand unit start first shallow =
@@ -209,9 +210,9 @@ unit_parts_may_stand unit start first shallow =
     (declares parts.HasEventOut (λ x before. refl) (λ x. refl) (λ x value. refl) (λ x. refl)) bare_six in
     with_max_and_step seven start unit.max unit.step first bare_seven shallow
 
--- ---- Lines that stand more than once
+-- ---- Lines that may occur more than once
 
--- Whether any number of such lines may stand in a text.
+-- Whether any number of such lines is allowed in a text.
 abbrev is_common : LineForm → Bool
 is_common (form.Header version) = false
 is_common (form.Stop seconds) = false
@@ -280,9 +281,10 @@ many_are_common units instances wires =
     (mapped_are_common parts.HasInstance instance_is_common instances))
     (mapped_are_common parts.Connects (λ wire. refl) wires)
 
--- ---- Lines that stand once in a text
+-- ---- Lines that occur at most once in a text
 
--- A line that is like no common one, nor like a header.
+-- A line that begins with another keyword than each line that may occur more than once, and than the
+-- header.
 record IsRare (key : LineForm) : Type 0 where
   rival : (before : Before) → has_rival before key ≡ list_any (are_alike key) before.in_text
   header : (version : ℕ) → are_alike key (form.Header version) ≡ false
@@ -331,7 +333,7 @@ common_lack key rare (some ∷ lines) common =
 abbrev Lack : LineForm → List Part → Type 0
 Lack key front = NonePasses (are_alike key) part_forms front
 
--- It has no rival behind the header and such parts.
+-- It has no rival after the header and such parts.
 no_rival : (version : ℕ) (front : List Part) (key : LineForm) → IsRare key → Lack key front
     → not (has_rival (and_lines (headed version) (flat_map part_forms front)) key) ≡ true
 no_rival version front key rare lack =
@@ -344,7 +346,7 @@ no_rival version front key rare lack =
 
 -- ---- A text
 
--- Units whose steps are shallow may stand one behind the other.
+-- Units whose steps are shallow are allowed in a row.
 units_follow : (units : List Unit) (before : Before) → list_all (λ unit. nat_le (step_depth unit.step) 16) units ≡ true
     → parts_may_stand before (map (λ unit. parts.HasUnit unit.name (unit_parts unit)) units) ≡ true
 units_follow [] before shallow = refl
@@ -355,7 +357,7 @@ units_follow (unit ∷ units) before shallow =
     and_from (part_may_stand before part) (parts_may_stand after (map (λ one. parts.HasUnit one.name (unit_parts one)) units))
     (unit_parts_may_stand unit (and_line before (form.Unit unit.name)) refl both.0) (units_follow units after both.1)
 
--- An optional part that stands once, behind parts with no line like its own.
+-- An optional part that may occur once, after parts without a line of its keyword.
 and_once : {A : Type 0} (version : ℕ) (front : List Part) (part : A → Part) (given : Option A) → parts_may_stand (headed version) front ≡ true
     → ((one : A) → part_may_stand (and_lines (headed version) (flat_map part_forms front)) (part one) ≡ true)
     → parts_may_stand (headed version) (front ++ optional part given) ≡ true
@@ -363,7 +365,7 @@ and_once version front part given stands may =
     may_follow_both part_forms part_may_stand front (optional part given) (headed version) stands
     (optional_follows part_forms part_may_stand part given (and_lines (headed version) (flat_map part_forms front)) may)
 
--- The canonical parts of a system with such units may stand behind its header.
+-- The canonical parts of a system with such units are allowed after its header.
 canonical_parts_may_stand : (system : System) → list_all (λ unit. nat_le (step_depth unit.step) 16) system.units ≡ true
     → parts_may_stand (headed system.version) (canonical_parts system) ≡ true
 canonical_parts_may_stand system shallow =

@@ -8,7 +8,7 @@ use Rattle.unit_tree.specs.declared.token.Keyword.TheVariants as word
 use Rattle.unit_tree.specs.declared.token.Token.{Token}
 use Rattle.unit_tree.specs.declared.token.Token.TheVariants as token
 
--- No form is written with no tokens, none with a name alone, and none with a number in front.
+-- No form is written without tokens, by a name alone, or with a number first.
 pub no_tokens : (some : LineForm) → WritesForm some [] → ⊥
 no_tokens (form.Header version) written = absurd (cc written.spelled)
 no_tokens (form.Unit name) written = absurd (cc written.spelled)

@@ -298,7 +298,7 @@ type_fits (types.Fixed decimals) few = (((refl, refl, omega arith), keyword_of_n
 declaration_fits : (declared : Keyword) (name : List ℕ) (ty : Ty) → IsName name → AreDecimals ty → AreFit (declaration declared name ty)
 declaration_fits declared name ty is_name few = (_, (is_name, (_, type_fits ty few)))
 
--- They fit with `=` behind them.
+-- They fit with `=` after them.
 given_fits : (declared : Keyword) (name : List ℕ) (ty : Ty) → IsName name → AreDecimals ty → AreFit (declaration declared name ty ++ equals)
 given_fits declared name ty is_name few = both_fit (declaration declared name ty) equals (declaration_fits declared name ty is_name few) _
 
@@ -320,7 +320,7 @@ needing_fits declared name ty needs is_name are few =
     let front = declaration declared name ty in
     both_fit (front ++ needs_tokens needs) equals (both_fit front (needs_tokens needs) (declaration_fits declared name ty is_name few) (needs_fit needs are)) _
 
--- The tokens in front of a literal or an expression fit.
+-- The tokens before a literal or an expression fit.
 front_fits : (some : LineForm) → AreNames (names_said some) → AreCountsInRange some → AreFit (front_tokens some)
 front_fits (form.Header version) names counts = (_, (whole_fits version (omega (arith, counts.1)), _))
 front_fits (form.Unit name) names counts = (_, (names.0, _))

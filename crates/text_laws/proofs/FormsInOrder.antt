@@ -1,4 +1,4 @@
--- The canonical lines of what parts say are the lines of the parts, each once.
+-- The canonical lines of the system of some parts are the lines of the parts, each once.
 use Rattle.std.proofs.Common.{◌≡◌, ℕ, Bool, true, false, cond, List, [], ◌∷◌, ◌++◌, map, length, take, drop, get_or, IsTrue, refl, ap, sym, subst, ◌∙◌}
 use Rattle.std.specs.Prelude.{◌==◌}
 use Rattle.std.specs.List.{AllByRecursion, filter, flat_map, range_with_len}
@@ -17,7 +17,7 @@ use Rattle.unit_tree.specs.declared.line_form.LineForm.TheVariants as form
 use Rattle.language_laws.proofs.RankLaws.{each_once}
 use Rattle.language_laws.proofs.SourceLaws.{forms_are}
 
--- ---- What goes along with lines is put into order as they are
+-- ---- A list with an element for each line is sorted as the lines are
 
 -- Other entries in place of those of ranked lists.
 abbrev relisted : {A B : Type 0} → (A → B) → List (ℕ × List A) → List (ℕ × List B)
@@ -99,7 +99,7 @@ order_map f all lines =
 
 -- ---- Forms
 
--- Lines of parts that stand where they may are the canonical lines in another order.
+-- Lines of parts that are where they are allowed are the canonical lines in another order.
 pub forms_in_order : (version : ℕ) (all : List Part) → IsTrue (are_placed no_lines (text_forms version all))
     → IsPermutation (canonical_forms (system_of version all)) (text_forms version all)
 forms_in_order version all placed =

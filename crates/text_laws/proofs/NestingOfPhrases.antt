@@ -26,7 +26,7 @@ use Rattle.list_laws.proofs.Truths.{crossed}
 
 -- ---- Nesting
 
--- In every place where a phrase may stand, the canonical one of its tree is nested no deeper.
+-- In every place where a phrase is allowed, the canonical phrase of its tree is nested no deeper.
 abbrev Claim : Phrase → Type 0
 Claim written = (asked : Level) → stands asked written ≡ true → nesting (placed asked (again written)) ≤ nesting written
 
@@ -59,7 +59,7 @@ binary_within by.Min canonical written within = omega (arith, within)
 binary_within by.Max canonical written within = omega (arith, within)
 binary_within _ canonical written within = within
 
--- The canonical operand stands in its place no deeper, and so the operation does.
+-- The canonical operand is nested no deeper in its place, and so is the operation.
 on_unary : (op : UnOp) (arg : Phrase) → Claim arg → Claim (phrase.Unary op arg)
 on_unary op arg given asked so =
     let level = operand_level (unary_level op) in
@@ -132,7 +132,7 @@ nests_less (phrase.Choose condition then_part else_part) =
 nests_less phrase.Absent = leaf phrase.Absent (fold-Absent Phrase node_phrase) refl
 nests_less (phrase.Present name) = leaf (phrase.Present name) (fold-Present Phrase node_phrase name) refl
 
--- The canonical phrase of what stands in a place is nested there no deeper than what is written.
+-- The canonical phrase in a place is nested there no deeper than the phrase that is written.
 pub canonical_nests_less : (asked : Level) (written : Phrase) → IsTrue (stands asked written)
     → nesting (placed asked (canonical_phrase (tree_of written))) ≤ nesting written
 canonical_nests_less asked written so = nests_less written asked so
@@ -143,7 +143,7 @@ canonical_nests_less asked written so = nests_less written asked so
 abbrev NumbersAre : Phrase → Type 0
 NumbersAre written = numbers_fit written ≡ (is_unsigned (tree_of written) && is_ranged (tree_of written))
 
--- What two parts tell, and what three tell.
+-- The tests of two parts, and of three.
 two_are : (one other : Bool) (first second first_too second_too : Bool) → one ≡ (first && first_too) → other ≡ (second && second_too)
     → (one && other) ≡ ((first && second) && (first_too && second_too))
 two_are one other first second first_too second_too is is_too = rw (is, is_too) (crossed first first_too second second_too)

@@ -62,7 +62,7 @@ pointed_within : (fraction : List ℕ) → length (pointed fraction) ≤ suc (le
 pointed_within [] = omega arith
 pointed_within (digit ∷ fraction) = omega arith
 
--- A whole number of so many digits at most.
+-- A whole number of at most this many digits.
 pub fixed_short : (most n : ℕ) → 1 ≤ most → n < 10 ^ most → n < 2 ^ 64 → length (fixed_text 0 n) ≤ most + 3
 fixed_short most n some small fits =
     let text = decimal n in

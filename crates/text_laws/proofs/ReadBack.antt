@@ -79,7 +79,7 @@ texts_have_forms : (text : List (List ℕ)) (forms : List LineForm) → AllByRec
 texts_have_forms text [] have = _
 texts_have_forms text (some ∷ forms) have = (have.0, texts_have_forms text forms have.1)
 
--- Its parts, its lines, their places and their lengths are those of a text that says the system.
+-- Its parts, its lines, their places and their lengths are those of a text that has the system.
 pub read_back : CanonicalTextIsReadBack
 read_back system printable =
     let forms = canonical_forms system in

@@ -1,4 +1,4 @@
--- What a text says has a canonical text, and is in range.
+-- The system of a text has a canonical text, and is in range.
 use Rattle.std.proofs.Common.{◌≡◌, ℕ, ◌+◌, ◌≤◌, Bool, true, false, cond, not, nat_le, ◌==◌, List, [], ◌∷◌, ◌++◌, map, length, length-append, IsTrue, refl, ap}
 use Rattle.std.proofs.Common.{sym, subst, ◌∙◌, arith}
 use Rattle.std.specs.Prelude.{◌||◌}
@@ -181,7 +181,7 @@ returns_within (line ∷ lines) =
 
 -- ---- A text
 
--- The canonical text of what a text says is no longer than this text.
+-- The canonical text of a text's system is no longer than this text.
 text_within : (text : List ℕ) (version : ℕ) (all : List Part) → HaveForms (source_lines text) (text_forms version all) (source_lines text)
     → IsTrue (are_placed no_lines (text_forms version all)) → length (canonical_text (system_of version all)) ≤ size_of text
 text_within text version all have placed =

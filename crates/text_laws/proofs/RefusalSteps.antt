@@ -17,7 +17,7 @@ by_rule text rule before line (inr (inr (inl broken))) on_byte on_length on_form
 by_rule text rule before line (inr (inr (inr (inl broken)))) on_byte on_length on_form on_place on_header = on_place broken.0 broken.1
 by_rule text rule before line (inr (inr (inr (inr broken)))) on_byte on_length on_form on_place on_header = on_header broken.0 broken.1
 
--- No rule is broken by a line behind others.
+-- No rule is broken by a line after others.
 abbrev pub IsUnbroken : List (List ℕ) → List (List ℕ) → List ℕ → Type 0
 IsUnbroken text before line = (rule : ℕ) → LineBreaks text rule before line → ⊥
 

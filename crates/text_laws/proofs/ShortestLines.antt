@@ -27,7 +27,7 @@ unsigned_tokens digits decimals =
     let magnitude : unsigned_abs (pos digits) ≡ digits = omega arith in
     rw (not_negative digits, magnitude) refl
 
--- A sign in front of 0 is left out, and stands in front of every other negative number.
+-- A sign before 0 is left out, and is there before every negative number.
 signed_number : (negative : Bool) (digits decimals : ℕ)
     → TakeNoMore (literal_tokens (literal.Number (with_sign negative digits) decimals)) (sign_tokens negative ++ (token.Number digits decimals ∷ []))
 signed_number false digits decimals =

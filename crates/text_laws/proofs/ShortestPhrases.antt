@@ -22,7 +22,7 @@ use Rattle.language_laws.proofs.PhraseLaws.{primary_stands, all_in_whole}
 
 -- ---- Tokens that take no more than others
 
--- The canonical tokens take no more than the written ones, whatever stands before them and behind them.
+-- The canonical tokens take no more bytes than the written ones, whatever comes before and after them.
 pub record TakeNoMore (canonical written : List Token) : Type 0 where
   pub within : (behind : Bool) (rest : List Token) → width behind (canonical ++ rest) ≤ width behind (written ++ rest)
 
@@ -34,16 +34,16 @@ as_much canonical written same = rw same (record { within = λ behind rest. omeg
 through : {canonical middle written : List Token} → TakeNoMore canonical middle → TakeNoMore middle written → TakeNoMore canonical written
 through first second = record { within = λ behind rest. omega (arith, first.within behind rest, second.within behind rest) }
 
--- One token in front of both.
+-- One token before both.
 take_behind : (first : Token) {canonical written : List Token} → TakeNoMore canonical written → TakeNoMore (first ∷ canonical) (first ∷ written)
 take_behind first less = record { within = λ behind rest. omega (arith, less.within (is_worded first) rest) }
 
--- The same tokens in front of both.
+-- The same tokens before both.
 pub take_after : (front : List Token) {canonical written : List Token} → TakeNoMore canonical written → TakeNoMore (front ++ canonical) (front ++ written)
 take_after [] less = less
 take_after (first ∷ front) less = take_behind first (take_after front less)
 
--- The same tokens behind both.
+-- The same tokens after both.
 take_before : (back canonical written : List Token) → TakeNoMore canonical written → TakeNoMore (canonical ++ back) (written ++ back)
 take_before back canonical written less =
     record { within = λ behind rest. rw (append_assoc canonical back rest, append_assoc written back rest) (less.within behind (back ++ rest)) }
@@ -146,7 +146,7 @@ placed_parens false canonical inner less = take_inside less
 abbrev pub again : Phrase → Phrase
 again written = canonical_phrase (tree_of written)
 
--- In every place where a phrase may stand, the canonical one of its tree takes no more.
+-- In every place where a phrase is allowed, the canonical phrase of its tree takes no more bytes.
 abbrev Claim : Phrase → Type 0
 Claim written = (asked : Level) → stands asked written ≡ true → IsNoLonger (placed asked (again written)) written
 
@@ -164,11 +164,11 @@ on_number : (digits decimals : ℕ) → Claim (phrase.Number digits decimals)
 on_number digits decimals =
     leaf (phrase.Number digits decimals) (fold-Number Phrase node_phrase (pos digits) decimals ∙ ap (λ n. phrase.Number n decimals) (omega arith)) refl
 
--- Parentheses of what is written stand again only where the place asks for them.
+-- Parentheses that are written are needed again only where the place requires them.
 on_parens : (inner : Phrase) → Claim inner → Claim (phrase.Parens inner)
 on_parens inner given asked so = placed_parens (allows asked (level_of (again inner))) (again inner) inner (on_whole inner given so)
 
--- What is written stands without parentheses in its place, and so the canonical operation does.
+-- What is written is in its place without parentheses, and so is the canonical operation.
 on_unary : (op : UnOp) (arg : Phrase) → Claim arg → Claim (phrase.Unary op arg)
 on_unary op arg given asked so =
     let level = operand_level (unary_level op) in

@@ -1,4 +1,4 @@
--- What a text says has as many canonical lines as the text has lines that are not blank.
+-- The system of a text has as many canonical lines as the text has lines that are not blank.
 use Rattle.std.proofs.Common.{◌≡◌, ℕ, suc, ◌+◌, Bool, true, false, List, [], ◌∷◌, ◌++◌, length, take, drop, refl, ap, sym, ◌∙◌, arith}
 use Rattle.std.specs.Prelude.{◌==◌, not, ⊤}
 use Rattle.std.specs.List.{filter, flat_map, enumerate_from}

@@ -1,4 +1,4 @@
--- The texts of tokens, and of tokens that stand apart: they spell these tokens.
+-- The texts of tokens, and of tokens that need no blank between them: they spell these tokens.
 use Rattle.std.proofs.Common.{◌≡◌, ℕ, zero, suc, ◌<◌, ◌≤◌, Bool, true, false, not, cond, ◌&&◌, ◌||◌, ◌==◌, Option, Some, None, List, [], ◌∷◌}
 use Rattle.std.proofs.Common.{◌++◌, length, drop, IsTrue, refl, ap, sym, subst, ◌∙◌, arith, append_assoc}
 use Rattle.std.specs.List.{AllByRecursion, list_all, last_or}
@@ -163,8 +163,8 @@ token_some (token.Name name) fits = (name_begins name fits.0).some
 token_some (token.Number digits decimals) fits = (number_begins digits decimals (fixed_text decimals digits) (padded_number decimals digits fits.1 fits.0)).some
 token_some (token.Symbol spelled) fits = (symbol_size spelled).0
 
--- A test of bytes sees in the text of a token what a test of tokens sees in the token: no word passes, and symbols
--- pass alike.
+-- A test of the first byte of a token's text agrees with a test of the token: no word passes, and a symbol passes the
+-- one exactly if it passes the other.
 record SeesFirst (test : ℕ → Bool) (seen : Token → Bool) : Type 0 where
   words : (byte : ℕ) → is_word_byte byte ≡ true → test byte ≡ false
   keywords : (spelled : Keyword) → seen (token.Keyword spelled) ≡ false
@@ -181,12 +181,12 @@ token_first test seen sees (token.Number digits decimals) fits =
     ∙ sym (sees.numbers digits decimals)
 token_first test seen sees (token.Symbol spelled) fits = sees.symbols spelled
 
--- What a text begins with is what its front begins with.
+-- A text begins with what its prefix begins with.
 begins_front : (test : ℕ → Bool) (text others : List ℕ) → 0 < length text → begins_with test (text ++ others) ≡ begins_with test text
 begins_front test [] others some = absurd (omega arith)
 begins_front test (byte ∷ bytes) others some = refl
 
--- So it is where a space may stand behind the front.
+-- The same where a space may follow the prefix.
 spaced_begins : (test : ℕ → Bool) (text others : List ℕ) → 0 < length text → begins_with test (spaced text others) ≡ begins_with test text
 spaced_begins test text others some =
     elim (ends_in_word text && begins_with is_word_byte others) as
@@ -302,8 +302,8 @@ number_ends digits decimals text is = ap ends_in_word is.spelled ∙ parts_end i
 
 -- ---- Where tokens end
 
--- What is known of the bytes behind a token's text: none of a word where the text ends in one, and none that the token
--- would be read on into.
+-- What is known of the bytes after a token's text: none of a word where the text ends in one, and none that would
+-- continue the token.
 record StandsBefore (some : Token) (rest : List ℕ) : Type 0 where
   apart : ends_in_word (token_text some) ≡ true → begins_with is_word_byte rest ≡ false
   no_point : (digits decimals : ℕ) → some ≡ token.Number digits decimals → begins_with (λ byte. byte == 46) rest ≡ false
@@ -328,7 +328,7 @@ token_ends (token.Symbol spelled) rest fits before = symbol_longest spelled rest
 before_blank : (some : Token) (rest : List ℕ) → StandsBefore some (32 ∷ rest)
 before_blank some rest = record { apart = λ ends. refl; no_point = λ digits decimals is. refl; no_growth = λ spelled is. refl }
 
--- The text of tokens that stand apart from the one before them ends it.
+-- The text of tokens that need no blank after the one before them ends it.
 before_tokens : (some : Token) (others : List Token) → AreFit others → not (reads_on some others) ≡ true
     → (ends_in_word (token_text some) && begins_with is_word_byte (tokens_text others)) ≡ false → StandsBefore some (tokens_text others)
 before_tokens some others fit apart no_meeting =
@@ -342,7 +342,7 @@ before_tokens some others fit apart no_meeting =
 
 -- ---- Lines
 
--- A line spells the same behind a space.
+-- A line spells the same after a space.
 behind_blank : (tokens : List Token) (line : List ℕ) → Spells tokens line → Spells tokens (32 ∷ line)
 behind_blank [] line spelled = spelled
 behind_blank (first ∷ others) line (rest, begins, more) = (
@@ -359,7 +359,7 @@ behind_blank (first ∷ others) line (rest, begins, more) = (
   more,
 )
 
--- A token in front of what ends it is spelled, and what is behind it too.
+-- A token before bytes that end it is spelled, and so are the tokens after it.
 first_spelled : (first : Token) (others : List Token) (rest : List ℕ) → IsFit first → StandsBefore first rest → Spells others rest
     → Spells (first ∷ others) (token_text first ++ rest)
 first_spelled first others rest fits before more = (
@@ -385,7 +385,7 @@ meeting_or_not first others true is fits fit apart more =
     first_spelled first others (32 ∷ tokens_text others) fits (before_blank first (tokens_text others)) (behind_blank others (tokens_text others) more)
 meeting_or_not first others false is fits fit apart more = first_spelled first others (tokens_text others) fits (before_tokens first others fit apart is) more
 
--- Tokens that fit and stand apart are spelled by their text.
+-- Tokens that fit and need no blanks between them are spelled by their text.
 pub tokens_are_spelled : (tokens : List Token) → AreFit tokens → are_apart tokens ≡ true → Spells tokens (tokens_text tokens)
 tokens_are_spelled [] fit apart = refl
 tokens_are_spelled (first ∷ others) fit apart =

@@ -58,7 +58,7 @@ word_once bytes one other is also =
 
 -- ---- Digits
 
--- Digits have no sign in front.
+-- Digits have no sign before them.
 pub unsigned_value : (bytes : List ℕ) → list_all is_digit bytes ≡ true → signed_digits_value 10 bytes ≡ pos (digits_value 10 bytes)
 unsigned_value [] all = refl
 unsigned_value (byte ∷ bytes) all =

@@ -47,7 +47,7 @@ spelled_fit (first ∷ others) line spelled = (spelling_fits first spelled.1.tex
 
 -- ---- Names of an expression
 
--- What stands in parentheses fits.
+-- Tokens in parentheses fit.
 inside_parens : (tokens : List Token) → AreFit (in_parens tokens) → AreFit tokens
 inside_parens tokens fit = (each_part IsFit tokens (symbol sign.Close ∷ []) fit.1).0
 
@@ -148,7 +148,7 @@ declared_names declared name ty needs fit =
     let parts = each_part IsFit (declaration declared name ty) (needs_tokens needs) front.0 in
     (fit.1.0, needed_names needs parts.1)
 
--- The names in front of a literal or an expression are names.
+-- The names before a literal or an expression are names.
 front_names : (some : LineForm) → AreFit (front_tokens some) → AreNames (names_said some)
 front_names (form.Unit name) fit = (fit.1.0, _)
 front_names (form.Param param) fit = (fit.1.0, _)
