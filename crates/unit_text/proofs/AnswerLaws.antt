@@ -1,4 +1,4 @@
--- Each text says one system, or is refused at one line by one rule.
+-- Each text has one system, or is refused at one line by one rule.
 use Rattle.std.proofs.Common.{◌≡◌, cond, ℕ, suc, ◌<◌, ◌≤◌, Bool, true, false, not, List, [], ◌∷◌, ◌++◌, append_assoc, length, ◌⊎◌, inl, inr, refl, ap, sym}
 use Rattle.std.proofs.Common.{subst, ◌∙◌, arith}
 use Rattle.std.specs.Prelude.{◌&&◌, nat_le, nat_lt, ◌≢◌}
@@ -33,7 +33,7 @@ use Rattle.list_laws.proofs.Lists.{none_cut}
 
 -- ---- A line, whatever it is
 
--- What a line's bytes tell of it.
+-- What is known of a line by its bytes.
 pub data Seen (line : List ℕ) : Type 0 where
   HasForbidden : has_forbidden_byte line ≡ true → Seen line
   IsLong : has_forbidden_byte line ≡ false → line_limit < length line → Seen line
@@ -239,7 +239,7 @@ blank_is_refused (line ∷ lines) blank = by_length (nat_lt line_limit (length l
 
 -- ---- The end of a text
 
--- Lines that nest and leave no block open say the system of their parts.
+-- Lines that nest and leave no block open have the system of their parts.
 unfoldable pub ends_whole : (text : List ℕ) (nested : Nested) → size_of text ≤ text_limit → NestTo (source_lines text) (source_lines text) nested
     → nested_forms nested ≡ text_forms nested.version nested.parts → Reads text (system_of nested.version nested.parts)
 ends_whole text nested fits so_far whole = record {
@@ -265,7 +265,7 @@ ends_open lines nested some_written so_far is_open = record {
   is_last = refl;
 }
 
--- ---- A text that says a system breaks no rule
+-- ---- A text that has a system breaks no rule
 
 -- Related lists, cut where the second is.
 record ZipCut {A B : Type 0} (R : A → B → Type 0) (xs : List A) (ys zs : List B) : Type 0 where
@@ -296,7 +296,7 @@ short_at [] line later short =
 short_at (first ∷ before) line later short =
     short_at before line later (and_parts (nat_le (length first) line_limit) (are_short (before ++ (line ∷ later))) short).1
 
--- What the lines of a text have where it says a system.
+-- What is known of the lines of a text that has a system.
 record Says (text : List (List ℕ)) (version : ℕ) (all : List Part) : Type 0 where
   forms : HaveForms text (text_forms version all) text
   placed : are_placed no_lines (text_forms version all) ≡ true

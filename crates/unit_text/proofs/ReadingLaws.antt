@@ -136,12 +136,12 @@ first_of text line rest number first is = record {
   is_written = is.written;
 }
 
--- What is told of a line's bytes breaks its least rule.
+-- The rule that is found by a line's bytes is the least that the line breaks.
 bytes_least : (text before : List (List ℕ)) (line : List ℕ) (rule : ℕ) → TellsOf line (told.Broken rule) → BreaksLeast text before line rule
 bytes_least text before line rule (inl (is, byte)) = subst (BreaksLeast text before line) (sym is) (bytes_break text before line byte)
 bytes_least text before line rule (inr (is, bytes, long)) = subst (BreaksLeast text before line) (sym is) (length_breaks text before line bytes long)
 
--- A line that breaks a rule, and the least that it breaks, behind lines that break none.
+-- A line that breaks a rule, and the least that it breaks, after lines that break none.
 refused_at : (text : List ℕ) (before : List (List ℕ)) (line : List ℕ) (later : List (List ℕ)) (number rule : ℕ) → size_of text ≤ text_limit
     → list_all is_blank_line (source_lines text) ≡ false → source_lines text ≡ before ++ (line ∷ later) → number ≡ suc (length before)
     → AreUnbroken (source_lines text) [] before → BreaksLeast (source_lines text) before line rule → IsRefused text number rule
@@ -315,7 +315,7 @@ same_place (InUnit name inside) = refl
 same_place (InStep name inside inner) = refl
 same_place (InInstance instance) = refl
 
--- What a line of a form does to the draft goes along with whether it may stand.
+-- A line of a form gives a draft exactly where it is allowed.
 may_of : (nested : Nested) (some : LineForm) (next : Option Draft) → are_placed no_lines (nested_forms nested) ≡ true
     → with_form (draft_of nested) some ≡ next → next ≡ cond (may_stand (before_next nested) some) (Some (draft_of (and_form nested some))) None
 may_of nested some next placed is = sym is ∙ draft_goes nested some placed
@@ -486,7 +486,8 @@ open_parts nested is none = by_block nested.block is none
     by_block (InStep name inside inner) is none = around_is_some inner.around none
     by_block (InInstance instance) is none = cc
 
--- The system of a text whose lines nest to whole parts, and where its canonical lines came from.
+-- The system of a text whose lines nest to complete parts, and the lines that its canonical lines
+-- came from.
 reads_from : (text : List ℕ) (nested : Nested) (numbers : Numbers) → size_of text ≤ text_limit → NestTo (source_lines text) (source_lines text) nested
     → blocks_of nested.block ≡ [] → numbers ≡ numbers_of nested (source_numbers.numbers_of (source_lines text))
     → ReadsFrom text (system_of nested.version nested.parts) (in_order numbers)
@@ -538,7 +539,7 @@ blank_refused text fits blank = inr (fits, inl (blank_is_refused (source_lines t
 pub long_refused : (text : List ℕ) → text_limit < size_of text → IsRefused text 1 2
 long_refused text long = inl (long, refl, refl)
 
--- ---- Errors that are handed on
+-- ---- Errors that are passed on
 
 pub header_error : FormsAreKnown → (text : List ℕ) (why : TextFault) (result : Result ReadText TextFault) → size_of text ≤ text_limit
     → list_all is_blank_line (source_lines text) ≡ false → HeaderGives text (Err why) → IsErrAnd result (λ found. found ≡ why) → AnswersText text result

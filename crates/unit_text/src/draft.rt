@@ -1,4 +1,4 @@
-//! A system as far as the lines of its text have come.
+//! Drafts: the system of the lines of a text that were read so far.
 ghost use Rattle.std.specs.Prelude.{◌≡◌, Some};
 ghost use Rattle.text_tokens.specs.Scanning.{Gives};
 ghost use Rattle.text_tokens.specs.declared.fault.Unread.TheVariants.{NoForm};
@@ -13,21 +13,21 @@ use unit_tree::{
     Setting, State, System, Unit, Wire,
 };
 
-/// How many blocks of `if` and `repeat` may stand in each other.
+/// How deep blocks of `if` and `repeat` may be nested.
 const DEEPEST_BLOCK: usize = 16;
 
-/// What a block of step lines began with.
+/// How a block of step lines began.
 #[derive(Drop)]
 pub enum Head {
     /// `if cond`
     Then(Expr),
-    /// `if cond`, the lines up to its `else`, and that.
+    /// `if cond`, the lines up to its `else`, and the `else`.
     Else { cond: Expr, yes: List<Line> },
     /// `repeat K`
     Times(u32),
 }
 
-/// An open block of step lines that another one stands in.
+/// An open block of step lines that has another one inside.
 #[derive(Drop)]
 pub struct Around {
     /// The lines before it in the block around it.
@@ -35,7 +35,7 @@ pub struct Around {
     pub head: Head,
 }
 
-/// A step so far.
+/// A step, as far as it was read.
 #[derive(Drop)]
 pub struct StepSoFar {
     /// The lines of its innermost block.
@@ -44,7 +44,7 @@ pub struct StepSoFar {
     pub around: List<Around>,
 }
 
-/// The block that is open, with what it holds so far.
+/// The block that is open, with its content so far.
 #[derive(Drop)]
 pub enum OpenBlock {
     Top,
@@ -62,7 +62,7 @@ impl OpenBlock {
     }
 }
 
-/// The parts of a text that are whole, as the system that they say, and the block that is open behind them.
+/// The complete parts of a text, as a system, and the block that is open after them.
 #[derive(Drop)]
 pub struct Draft {
     pub system: System,
@@ -70,7 +70,7 @@ pub struct Draft {
 }
 
 impl Draft {
-    /// What the header of a version says. Adding lines takes memory from `alloc`.
+    /// Returns the draft of the header of a version. Adding lines takes memory from `alloc`.
     pub fn new(alloc: Global, version: u8) -> Draft
         ensures { result ≡ bare_draft version }
     {
@@ -90,7 +90,7 @@ impl Draft {
         }
     }
 
-    /// The draft with a line more, behind the header. `NoForm` where the line may not stand there.
+    /// The draft with one more line, after the header. `NoForm` where the line is not allowed there.
     pub fn with_form(self, alloc: Global, form: LineForm) -> Result<Draft, Unread>
         ensures { Gives result (with_form self form) }
     {
@@ -103,7 +103,7 @@ impl Draft {
         }
     }
 
-    /// The system, where no block is open.
+    /// The system, if no block is open.
     pub fn whole_system(self) -> Option<System>
         ensures { result ≡ whole_system self }
     {
@@ -128,7 +128,7 @@ fn in_instance(system: System, instance: Instance) -> Draft
     }
 }
 
-/// Nothing but a unit's name.
+/// A unit that has nothing but its name.
 fn bare_unit(alloc: Global, name: Name) -> Unit
     ensures { result ≡ bare_unit name }
 {
@@ -165,7 +165,7 @@ fn in_unit(system: System, unit: Unit) -> Draft
     }
 }
 
-/// What is told of a line that may not stand where it does.
+/// The error for a line that is not allowed where it is: `NoForm`.
 fn misplaced(form: LineForm) -> Unread
     ensures { result ≡ NoForm }
 {
@@ -173,7 +173,7 @@ fn misplaced(form: LineForm) -> Unread
     Unread::NoForm
 }
 
-/// Puts a connection behind the others.
+/// Adds a connection at the end.
 fn put_wire(system: &mut System, wire: Wire) -> Result<(), Unread>
     ensures { Puts result system.new (Some (with_wire system.old wire)) }
 {
@@ -181,7 +181,7 @@ fn put_wire(system: &mut System, wire: Wire) -> Result<(), Unread>
     Ok(())
 }
 
-/// Puts where the run ends, which may be told once.
+/// Sets `stop`. `NoForm` where it is set already.
 fn put_stop(system: &mut System, seconds: Literal) -> Result<(), Unread>
     ensures { Puts result system.new (with_stop system.old seconds) }
 {
@@ -192,7 +192,7 @@ fn put_stop(system: &mut System, seconds: Literal) -> Result<(), Unread>
     Ok(())
 }
 
-/// Puts the longest step, which may be told once.
+/// Sets `longest`. `NoForm` where it is set already.
 fn put_longest(system: &mut System, seconds: Literal) -> Result<(), Unread>
     ensures { Puts result system.new (with_longest system.old seconds) }
 {
@@ -203,7 +203,7 @@ fn put_longest(system: &mut System, seconds: Literal) -> Result<(), Unread>
     Ok(())
 }
 
-/// Puts the budget of steps of length zero, which may be told once.
+/// Sets the zero budget. `NoForm` where it is set already.
 fn put_zero(system: &mut System, count: u32) -> Result<(), Unread>
     ensures { Puts result system.new (with_zero system.old count) }
 {
@@ -214,7 +214,7 @@ fn put_zero(system: &mut System, count: u32) -> Result<(), Unread>
     Ok(())
 }
 
-/// Puts the budget of rows, which may be told once.
+/// Sets the row budget. `NoForm` where it is set already.
 fn put_rows(system: &mut System, count: u32) -> Result<(), Unread>
     ensures { Puts result system.new (with_rows system.old count) }
 {
@@ -225,7 +225,7 @@ fn put_rows(system: &mut System, count: u32) -> Result<(), Unread>
     Ok(())
 }
 
-/// Puts a port that is sampled behind the others.
+/// Adds a sampled port at the end.
 fn put_sample(system: &mut System, port: PortName) -> Result<(), Unread>
     ensures { Puts result system.new (Some (with_sample system.old port)) }
 {
@@ -244,7 +244,7 @@ fn bare_instance(alloc: Global, name: Name, unit: Name) -> Instance
     }
 }
 
-/// Puts a limit, each of which may be told once.
+/// Sets a limit of the run. `NoForm` where it is set already.
 fn put_limit(system: &mut System, form: &LineForm) -> Result<(), Unread>
     ensures { Puts result system.new (limit_form system.old form.now) }
 {
@@ -257,7 +257,7 @@ fn put_limit(system: &mut System, form: &LineForm) -> Result<(), Unread>
     }
 }
 
-/// The same, of an owned form.
+/// The same for an owned form.
 fn take_limit(system: &mut System, form: LineForm) -> Result<(), Unread>
     ensures { Puts result system.new (limit_form system.old form) }
 {
@@ -266,7 +266,7 @@ fn take_limit(system: &mut System, form: LineForm) -> Result<(), Unread>
     put
 }
 
-/// Puts a line outside blocks that opens none.
+/// Adds a line outside blocks that opens none.
 fn put_at_top(system: &mut System, form: LineForm) -> Result<(), Unread>
     ensures { Puts result system.new (single_form system.old form) }
 {
@@ -277,7 +277,7 @@ fn put_at_top(system: &mut System, form: LineForm) -> Result<(), Unread>
     }
 }
 
-/// A line outside blocks.
+/// Reads a line outside blocks.
 fn top_form(alloc: Global, mut system: System, form: LineForm) -> Result<Draft, Unread>
     ensures { Gives result (top_form system form) }
 {
@@ -296,7 +296,7 @@ fn top_form(alloc: Global, mut system: System, form: LineForm) -> Result<Draft, 
     }
 }
 
-/// Puts a unit's resolution, which may be told once.
+/// Sets a unit's resolution. `NoForm` where it is set already.
 fn put_resolution(unit: &mut Unit, decimals: u8) -> Result<(), Unread>
     ensures { Puts result unit.new (with_resolution unit.old decimals) }
 {
@@ -307,7 +307,7 @@ fn put_resolution(unit: &mut Unit, decimals: u8) -> Result<(), Unread>
     Ok(())
 }
 
-/// Puts a parameter behind the others.
+/// Adds a parameter at the end.
 fn put_param(unit: &mut Unit, param: Param) -> Result<(), Unread>
     ensures { Puts result unit.new (Some (with_param unit.old param)) }
 {
@@ -315,7 +315,7 @@ fn put_param(unit: &mut Unit, param: Param) -> Result<(), Unread>
     Ok(())
 }
 
-/// Puts a state behind the others.
+/// Adds a state at the end.
 fn put_state(unit: &mut Unit, state: State) -> Result<(), Unread>
     ensures { Puts result unit.new (Some (with_state unit.old state)) }
 {
@@ -323,7 +323,7 @@ fn put_state(unit: &mut Unit, state: State) -> Result<(), Unread>
     Ok(())
 }
 
-/// Puts a local behind the others.
+/// Adds a local at the end.
 fn put_local(unit: &mut Unit, local: Local) -> Result<(), Unread>
     ensures { Puts result unit.new (Some (with_local unit.old local)) }
 {
@@ -331,7 +331,7 @@ fn put_local(unit: &mut Unit, local: Local) -> Result<(), Unread>
     Ok(())
 }
 
-/// Puts an input behind the others.
+/// Adds an input at the end.
 fn put_input(unit: &mut Unit, input: Input) -> Result<(), Unread>
     ensures { Puts result unit.new (Some (with_input unit.old input)) }
 {
@@ -339,7 +339,7 @@ fn put_input(unit: &mut Unit, input: Input) -> Result<(), Unread>
     Ok(())
 }
 
-/// Puts an event input behind the others.
+/// Adds an event input at the end.
 fn put_event_in(unit: &mut Unit, event: EventIn) -> Result<(), Unread>
     ensures { Puts result unit.new (Some (with_event_in unit.old event)) }
 {
@@ -347,7 +347,7 @@ fn put_event_in(unit: &mut Unit, event: EventIn) -> Result<(), Unread>
     Ok(())
 }
 
-/// Puts an output behind the others.
+/// Adds an output at the end.
 fn put_output(unit: &mut Unit, output: Output) -> Result<(), Unread>
     ensures { Puts result unit.new (Some (with_output unit.old output)) }
 {
@@ -355,7 +355,7 @@ fn put_output(unit: &mut Unit, output: Output) -> Result<(), Unread>
     Ok(())
 }
 
-/// Puts an event output behind the others.
+/// Adds an event output at the end.
 fn put_event_out(unit: &mut Unit, event: EventOut) -> Result<(), Unread>
     ensures { Puts result unit.new (Some (with_event_out unit.old event)) }
 {
@@ -363,7 +363,7 @@ fn put_event_out(unit: &mut Unit, event: EventOut) -> Result<(), Unread>
     Ok(())
 }
 
-/// Puts a unit's greatest step, which may be told once.
+/// Sets a unit's `max`. `NoForm` where it is set already.
 fn put_max(unit: &mut Unit, value: Expr) -> Result<(), Unread>
     ensures { Puts result unit.new (with_max unit.old value) }
 {
@@ -374,7 +374,7 @@ fn put_max(unit: &mut Unit, value: Expr) -> Result<(), Unread>
     Ok(())
 }
 
-/// Puts a declaration, or another line that a unit says of itself.
+/// Adds a declaration, or another line of a unit that opens no block.
 fn put_declared(unit: &mut Unit, form: LineForm) -> Result<(), Unread>
     ensures { Puts result unit.new (declared_form unit.old form) }
 {
@@ -392,7 +392,7 @@ fn put_declared(unit: &mut Unit, form: LineForm) -> Result<(), Unread>
     }
 }
 
-/// The step of a unit begins, which may have one.
+/// Begins the step of a unit. `NoForm` where it has one already.
 fn with_step(alloc: Global, system: System, unit: Unit) -> Result<Draft, Unread>
     ensures { Gives result (with_step system unit) }
 {
@@ -408,7 +408,7 @@ fn with_step(alloc: Global, system: System, unit: Unit) -> Result<Draft, Unread>
     Ok(in_step(system, unit, step))
 }
 
-/// A unit is whole.
+/// Adds a complete unit to the system.
 fn with_unit(mut system: System, unit: Unit) -> Result<Draft, Unread>
     ensures { Gives result (Some (with_unit system unit)) }
 {
@@ -421,7 +421,7 @@ fn with_unit(mut system: System, unit: Unit) -> Result<Draft, Unread>
     }
 }
 
-/// A line in a unit.
+/// Reads a line in a unit.
 fn unit_form(alloc: Global, system: System, mut unit: Unit, form: LineForm) -> Result<Draft, Unread>
     ensures { Gives result (unit_form system unit form) }
 {
@@ -439,7 +439,7 @@ fn unit_form(alloc: Global, system: System, mut unit: Unit, form: LineForm) -> R
     }
 }
 
-/// The blocks but the innermost, and that.
+/// The other blocks, and the innermost one.
 #[tactic(auto, using(crate::proofs::DraftLemmas::split_pop))]
 fn split_last(around: List<Around>) -> Option<(List<Around>, Around)>
     ensures { result ≡ split_last around }
@@ -458,7 +458,7 @@ fn in_step(system: System, unit: Unit, step: StepSoFar) -> Draft
     }
 }
 
-/// The step with a line without a block more.
+/// The step with one more line that has no block.
 fn with_line(mut step: StepSoFar, line: Line) -> Result<StepSoFar, Unread>
     ensures { Gives result (Some (and_line step line)) }
 {
@@ -466,7 +466,7 @@ fn with_line(mut step: StepSoFar, line: Line) -> Result<StepSoFar, Unread>
     Ok(step)
 }
 
-/// The step with a block more that begins.
+/// The step with a block that begins.
 fn in_block(alloc: Global, step: StepSoFar, head: Head) -> Result<StepSoFar, Unread>
     ensures { Gives result (in_block step head) }
 {
@@ -484,7 +484,7 @@ fn in_block(alloc: Global, step: StepSoFar, head: Head) -> Result<StepSoFar, Unr
     Ok(StepSoFar { lines, around })
 }
 
-/// The step behind an `else`.
+/// The step after an `else`.
 fn turned(alloc: Global, step: StepSoFar) -> Result<StepSoFar, Unread>
     ensures { Gives result (turned step) }
 {
@@ -502,7 +502,7 @@ fn turned(alloc: Global, step: StepSoFar) -> Result<StepSoFar, Unread>
     Ok(StepSoFar { lines, around })
 }
 
-/// The line that a block of step lines is.
+/// The line with this head and this block of step lines.
 fn headed(head: Head, lines: List<Line>) -> Line
     ensures { result ≡ headed head lines }
 {
@@ -521,7 +521,7 @@ fn headed(head: Head, lines: List<Line>) -> Line
     }
 }
 
-/// The step behind the `end` of its innermost block, which becomes a line of the one around it.
+/// The step after the `end` of its innermost block, which becomes a line of the block around it.
 fn behind_block(around: List<Around>, block: Around, lines: List<Line>) -> Result<StepSoFar, Unread>
     ensures { Gives result (Some (behind_block around block lines)) }
 {
@@ -533,7 +533,8 @@ fn behind_block(around: List<Around>, block: Around, lines: List<Line>) -> Resul
     })
 }
 
-/// Behind an `end`: the innermost block becomes a line of the one around it, and the step one of its unit.
+/// Reads an `end` in a step: the innermost block becomes a line of the block around it, or the step becomes
+/// that of its unit.
 fn ended(system: System, mut unit: Unit, step: StepSoFar) -> Result<Draft, Unread>
     ensures { Gives result (ended system unit step) }
 {
@@ -554,7 +555,7 @@ fn ended(system: System, mut unit: Unit, step: StepSoFar) -> Result<Draft, Unrea
     }
 }
 
-/// A line in a step that does not end a block.
+/// Reads a line in a step that does not end a block.
 fn line_in_step(alloc: Global, step: StepSoFar, form: LineForm) -> Result<StepSoFar, Unread>
     ensures { Gives result (line_in_step step form) }
 {
@@ -568,7 +569,7 @@ fn line_in_step(alloc: Global, step: StepSoFar, form: LineForm) -> Result<StepSo
     }
 }
 
-/// A line in a step.
+/// Reads a line in a step.
 fn step_form(
     alloc: Global,
     system: System,
@@ -591,7 +592,7 @@ fn step_form(
     }
 }
 
-/// Puts a setting behind the others.
+/// Adds a setting at the end.
 fn put_setting(instance: &mut Instance, setting: Setting) -> Result<(), Unread>
     ensures { Puts result instance.new (Some (with_setting instance.old setting)) }
 {
@@ -599,7 +600,7 @@ fn put_setting(instance: &mut Instance, setting: Setting) -> Result<(), Unread>
     Ok(())
 }
 
-/// Puts a line in an instance that does not end it.
+/// Adds a line in an instance that does not end it.
 fn put_in_instance(instance: &mut Instance, form: LineForm) -> Result<(), Unread>
     ensures { Puts result instance.new (setting_form instance.old form) }
 {
@@ -609,7 +610,7 @@ fn put_in_instance(instance: &mut Instance, form: LineForm) -> Result<(), Unread
     }
 }
 
-/// An instance is whole.
+/// Adds a complete instance to the system.
 fn with_instance(mut system: System, instance: Instance) -> Result<Draft, Unread>
     ensures { Gives result (Some (with_instance system instance)) }
 {
@@ -622,7 +623,7 @@ fn with_instance(mut system: System, instance: Instance) -> Result<Draft, Unread
     }
 }
 
-/// A line in an instance.
+/// Reads a line in an instance.
 fn instance_form(system: System, mut instance: Instance, form: LineForm) -> Result<Draft, Unread>
     ensures { Gives result (instance_form system instance form) }
 {
