@@ -161,7 +161,7 @@ settings_are text (setting ∷ settings) = settings_are (with_lines text (form.S
 
 -- ---- Blocks
 
--- A block: its head, what stands in it, and its end.
+-- A block: its head, the lines in it, and its end.
 pub block_is : (text : List ℕ) (head : LineForm) (body : List LineForm)
     → with_lines text (head ∷ body ++ (form.End ∷ [])) ≡ with_lines (with_lines (with_lines text (head ∷ [])) body) (form.End ∷ [])
 block_is text head body = lines_append (with_lines text (head ∷ [])) body (form.End ∷ [])

@@ -62,7 +62,7 @@ choose_within whole cond chosen other one two three less limit is is_one is_two 
     ap (λ (e : Expr). nat_le (levels e) less) is_three ∙ three_within (levels cond) (levels chosen) (levels other) less limit more a b
     ∙ ap (λ d. nat_le d limit) (sym node)
 
--- The operands of a call stand in no parentheses of their own, and are one level deeper.
+-- The operands of a call have no parentheses of their own, and are one level deeper.
 call_levels : (op : BinOp) (left right : Phrase) → IsTrue (is_call op)
     → nesting (phrase.Binary op (placed (left_level (binary_level op)) left) (placed (right_level (binary_level op)) right)) ≡ suc (max
     (nesting left) (nesting right))

@@ -24,7 +24,7 @@ use Rattle.unit_print.proofs.LineTests.{tail_told, tail_asked, names_told, names
 
 -- ---- One line
 
--- What is known of a line that may stand in a text of the version.
+-- What is known of a line that is allowed in a text of the version.
 pub record Fits (version : ℕ) (some : LineForm) : Type 0 where
   pub names : AllByRecursion IsName (names_on some)
   pub in_range : IsInRange some
