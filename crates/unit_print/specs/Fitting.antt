@@ -121,8 +121,8 @@ parts_fit version parts = list_all (line_fits version) (flat_map part_forms part
 
 -- ---- Lengths
 
--- Whether the lines of a text, each ended by LF, have at most 1,000 bytes, where `count` bytes come before the first
--- one.
+-- Whether the lines of a text, each ended by LF, have at most 1,000 bytes, where this many bytes come before the
+-- first line's.
 abbrev pub are_short : ℕ → List ℕ → Bool
 are_short before [] = true
 are_short before (byte ∷ text) = if byte == 10 then are_short 0 text else (nat_lt before 1000 && are_short (suc before) text)

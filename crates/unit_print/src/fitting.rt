@@ -224,7 +224,7 @@ fn samples_fit(samples: &[PortName]) -> bool
     samples.iter().all(|port| sample_fits(port))
 }
 
-/// Whether the `stop` or the `longest` of a system may be written.
+/// Whether an optional `stop` or `longest` may be written.
 fn perhaps_seconds_fit(given: Option<Literal>) -> bool
     ensures stop { result ≡ parts_fit 1 (optional parts.Stop given) }
     ensures longest { result ≡ parts_fit 1 (optional parts.Longest given) }
