@@ -32,8 +32,8 @@ pub record IsWritten (line : List ℕ) : Type 0 where
 
 -- ---- The first line that is not blank
 
--- The rule that a first line with this form breaks, where the form is not a header: no form of version 1, not allowed
--- outside blocks, or no header at the beginning of the text.
+-- The rule that a first line with this form breaks, where the form is not a header: rule 4 for a form that only version
+-- 2 has, rule 5 for one that is not allowed outside blocks, else rule 7.
 abbrev pub headless_rule : LineForm → ℕ
 headless_rule some = if is_of_version_2 some then 4 else (if may_stand no_lines some then 7 else 5)
 
