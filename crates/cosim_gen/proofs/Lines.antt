@@ -77,7 +77,8 @@ module _ (seed instances rows : ℕ) (can : CanGenerate instances rows) where
   more_lines : (earlier : List LineForm) (line : LineForm) → plain_lines (earlier ++ (line ∷ [])) ≡ plain_lines earlier ++ plain_lines (line ∷ [])
   more_lines earlier line = flat_map-append (plain_forms system TopScope) earlier (line ∷ [])
 
-  -- Before the instance in a place stand the instances before it, and no connection.
+  -- The lines before the instance at a place are those of the instances before it, and no
+  -- connection.
   record BeforeInstance (place : ℕ) (earlier : List LineForm) : Type 0 where
     named : AllByRecursion (NamedBefore place) (filter_map instance_declared earlier)
     alike : count_by same_instance (plain_lines earlier) ≡ place
@@ -135,7 +136,8 @@ module _ (seed instances rows : ℕ) (can : CanGenerate instances rows) where
 
   -- ---- Connections
 
-  -- Before the connection of the component in a place stand the connections of those before it.
+  -- The lines before the connection of the component at a place include the connections of those
+  -- before it.
   record BeforeWire (place : ℕ) (earlier : List LineForm) : Type 0 where
     fed : AllByRecursion (FedBefore place) (filter_map input_connected earlier)
     size : length (plain_lines earlier) ≤ 66 + place
