@@ -1,4 +1,4 @@
--- The outputs of a unit, of which those of events stand after all others.
+-- The outputs of a unit, with event outputs after all others.
 use Rattle.std.proofs.Common.{◌≡◌, ℕ, Bool, true, false, not, ◌&&◌, ◌||◌, List, [], ◌∷◌, ◌++◌, map, Option, Some, Result, Ok, Err, refl, ap, sym, ◌∙◌}
 use Rattle.std.proofs.Common.{append_assoc}
 use Rattle.std.specs.Prelude.{if◌then◌else◌, OnOk}
@@ -79,7 +79,7 @@ ports_of_unit before instance unit =
     append_assoc before (map (λ output. port_of instance output.name) unit.outputs) (map (λ event. port_of instance event.name) unit.events_out)
     ∙ ap (λ rest. before ++ rest) (named_ports instance unit.outputs unit.events_out)
 
--- The names of an instance's outputs stand behind others, those of its plain outputs first.
+-- The names of an instance's outputs are appended to others, first those of its plain outputs.
 pub ports_put : (before between after : List PortName) (instance : Instance) (unit : Unit) (outputs : List Output) (events : List EventOut)
     → outputs ≡ unit.outputs → events ≡ unit.events_out → between ≡ before ++ map (λ output. port_of instance output.name) outputs
     → after ≡ between ++ map (λ event. port_of instance event.name) events
