@@ -52,7 +52,7 @@ other_node (Expr-F.Choose cond chosen other) =
 other_node Expr-F.Absent = subst IsOther (sym rolls-Absent) (λ no_choice present gap change. absurd (present refl))
 other_node (Expr-F.Present name) = subst IsOther (sym (rolls-Present name)) (λ no_choice present gap change. choices-Present gap change name)
 
--- An expression that is neither `if` nor `absent` is one choice.
+-- An expression that is not an `if` and not `absent` is one choice.
 pub one_choice : (value : Expr) → IsOther value
 one_choice = ind-Expr IsOther (λ x y is. subst (λ z. IsOther (roll-Expr z)) is (other_node y))
 

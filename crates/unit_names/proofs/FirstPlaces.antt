@@ -1,4 +1,4 @@
--- What stands at the first place of a name is the first thing that has it.
+-- The element at the first place of a name is the first one that has it.
 use Rattle.std.proofs.Common.{◌≡◌, ℕ, ◌+◌, Bool, true, false, List, [], ◌∷◌, map, Option, Some, None, bytes_eq, refl, ap, ◌∙◌, add-one}
 use mathlib.Core.Bool.{cond}
 use Rattle.std.specs.Prelude.{slice_get}

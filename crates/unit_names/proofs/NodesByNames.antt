@@ -1,4 +1,4 @@
--- What is asked of each node of an expression is asked of its names.
+-- A test of each node of an expression is a test of its names.
 use Rattle.std.proofs.Common.{◌≡◌, Bool, true, false, ◌&&◌, ◌||◌, not, ℕ, List, ◌++◌, append_assoc, refl, ap, sym, ◌∙◌, subst}
 use Rattle.std.specs.List.{list_any}
 use Rattle.std.proofs.lemmas.List.Folds.{list_all-append, list_any-append}

@@ -43,7 +43,7 @@ turned one other = step (bytes_eq one other) (bytes_eq other one) refl refl
     step true false is also = let back = bytes_of other one (sym (same_bytes one other is)) in absurd (cc)
     step false true is also = let back = bytes_of one other (sym (same_bytes other one also)) in absurd (cc)
 
--- Two names that stand in a list are equal exactly where their first places are.
+-- Two names that are in a list are equal exactly where their first places are.
 pub by_places : (from : ℕ) (names : List (List ℕ)) (one other : List ℕ) (i j : ℕ) → position_from (bytes_eq one) from names ≡ Some i
     → position_from (bytes_eq other) from names ≡ Some j → bytes_eq one other ≡ nat_eq i j
 by_places from [] one other i j is also = absurd (cc)

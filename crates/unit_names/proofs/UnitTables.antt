@@ -1,4 +1,4 @@
--- What tables say of a unit, in the words of its definitions.
+-- What tables give for a unit, by its definitions.
 use Rattle.std.proofs.Common.{◌≡◌, ℕ, ◌+◌, Bool, true, false, ◌||◌, List, [], ◌∷◌, ◌++◌, map, Some, is_some, bytes_eq, refl, ap, ◌∙◌, append_assoc}
 use Rattle.std.proofs.lemmas.List.{map-append}
 use Rattle.std.proofs.lemmas.List.Folds.{list_any-append}
@@ -127,7 +127,7 @@ inputs_are unit = simp (map-append, map-map)
 pub outputs_are : (unit : Unit) → map port_as_named (output_ports unit) ≡ all_outputs_named unit
 outputs_are unit = simp (map-append, map-map)
 
--- ---- As the questions are asked
+-- ---- In the form of the queries
 
 names_of_each : {D : Type 0} (name : D → List ℕ) (ty : D → Ty) (event : Bool) (all : List D) (q : List ℕ)
     → is_some (declared_among (map (λ d. record { name = name d; ty = ty d; is_event = event }) all) q) ≡ is_among (map name all) q
