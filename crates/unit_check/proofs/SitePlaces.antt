@@ -1,4 +1,4 @@
--- Where each site of a system stands: among the lines of its own block, behind those that count as earlier.
+-- Where each site of a system is: among the lines of its own block, after those that count as earlier.
 use Rattle.std.proofs.Common.{◌≡◌, List, [], ◌∷◌, ◌++◌, map, Option, Some, None, append_assoc, refl, ap, sym, subst, ◌∙◌}
 use Rattle.std.specs.List.{AllByRecursion, flat_map}
 use Rattle.unit_check.proofs.SiteWalks.{heads, heads_alone, line_sites}

@@ -70,7 +70,7 @@ walk_on test number (site ∷ front) behind =
     (λ n is. walk_on test n front behind)
     ∙ sym (onward_onward (past (test site) number) (λ n. walk test n front) (λ n. walk test n behind))
 
--- The number behind a line is the next one.
+-- The number after a line is the next one.
 pub next_number : (met : Bool) (number behind : ℕ) → past met number ≡ Ok behind → behind ≡ number + 1
 next_number met number behind = step met (nat_eq number 4294967295)
   where
@@ -79,7 +79,7 @@ next_number met number behind = step met (nat_eq number 4294967295)
     step false true is = absurd (cc)
     step false false is = let here : suc number ≡ behind = cc in omega arith
 
--- The number behind some lines.
+-- The number after some lines.
 pub counted : (test : Site → Bool) (number behind : ℕ) (along : List Site) → walk test number along ≡ Ok behind → behind ≡ number + length along
 counted test number behind [] is = let here : number ≡ behind = cc in omega arith
 counted test number behind (site ∷ along) is = step (past (test site) number) refl (λ n rest. counted test n behind along rest) is

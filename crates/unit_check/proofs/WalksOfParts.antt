@@ -20,9 +20,9 @@ use Rattle.unit_tree.specs.declared.unit.Unit.{Unit}
 use Rattle.unit_check.proofs.SystemLines.{plain_names, port_lines, step_heads, block, unit_head, instance_block, instance_head, header, units, instances, wires}
 use Rattle.unit_check.proofs.SystemLines.{limits, samples, whole, sites_are}
 
--- ---- How many lines are asked
+-- ---- How many lines have an item
 
--- How many lines tell what is asked.
+-- How many lines have an item.
 abbrev pub told : {A : Type 0} → (LineForm → Option A) → List LineForm → ℕ
 told asked lines = length (filter_map asked lines)
 
@@ -201,7 +201,7 @@ module _ (test : Test) where
   -- ---- A system
 
   module _ (system : System) where
-    -- What is not told by the lines of (units system) and (instances system).
+    -- Items that the lines of (units system) and (instances system) don't have.
     untold_parts : {A : Type 0} (asked : LineForm → Option A) → ((name : List ℕ) → asked (form.Unit name) ≡ None)
         → ((name unit : List ℕ) → asked (form.Instance name unit) ≡ None) → Untold asked ((units system) ++ (instances system))
     untold_parts asked no_unit no_instance =
