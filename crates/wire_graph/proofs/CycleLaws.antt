@@ -109,7 +109,7 @@ in_either (first ∷ front) last port (inl is) = inl (inl is)
 in_either (first ∷ front) last port (inr later) = elim (in_either front last port later) [ inl here ↦ inl (inr here) | inr is ↦ inr is ]
 
 module _ (system : System) where
-  -- An output all of whose needs stand in the list stands there itself.
+  -- An output whose needs are all in the list is in the list itself.
   abbrev IsClosed : List PortName → Type 0
   IsClosed order = (port : PortName) → IsIn (outputs_of system) port → AllByRecursion (IsIn order) (needed_by system port) → IsIn order port
 

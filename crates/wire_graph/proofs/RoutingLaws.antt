@@ -32,7 +32,7 @@ fed_past [] place at past = refl
 fed_past (first ∷ routes) zero at past = absurd (omega (arith, past))
 fed_past (first ∷ routes) (suc place) at past = ap (λ rest. first ∷ rest) (fed_past routes place at (omega (arith, past)))
 
--- ---- All inputs, one behind the other
+-- ---- All inputs in a row
 
 pub routed_on : (routes : List Route) (front behind : List (InputAt × InputSource))
     → routed_by routes (front ++ behind) ≡ routed_by (routed_by routes front) behind
@@ -116,7 +116,7 @@ routed_feeding done ((at, AtPlace place) ∷ inputs) outputs =
 
 -- ---- The routes of a composition
 
--- A component with its inputs beside their sources, where each has one.
+-- A component with its inputs and their sources, where each has one.
 abbrev pub IsWiredAs : Member → Unit × List (Input × InputSource) → Type 0
 IsWiredAs member wired =
     (wired.0 ≡ member.component.unit) × (wired.1 ≡ zip member.component.unit.inputs member.sources)

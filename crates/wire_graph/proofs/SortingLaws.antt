@@ -127,7 +127,7 @@ none_yet routes = record {
         true_is_false (get_or (replicate (length routes.outputs) false) place false) told
         (get_or_past (replicate (length routes.outputs) false) place false (omega (arith, beyond, length-replicate (length routes.outputs) false)))
 
--- ---- What was tried before is tried behind more places
+-- ---- What was tried before needs no new try after more places
 
 pub tried_further : (routes : Routes) (old new newer : List ℕ) (place : ℕ) → IsTried routes old new place → Grows new newer → IsTried routes old newer place
 tried_further routes old new newer place tried grows = λ within needs. grows.holds place (tried within needs)
