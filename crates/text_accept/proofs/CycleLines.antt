@@ -68,7 +68,7 @@ cycle_line system ranged kept instance output fault names numbered without mark 
 pub some_line : (found : Option ℕ) (item : ℕ) → found ≡ Some item → IsSome found
 some_line found item is = subst IsSome (sym is) refl
 
--- What the answer to the system that a text says is, it is to the text.
+-- The result for the system of a text is the result for the text.
 pub answers_text : (text : List ℕ) (system : System) (lines : List ℕ) (result : Result AcceptedText TextFault) → ReadsFrom text system lines
     → AnswersSystem system lines result → AnswersAcceptance text result
 answers_text text system lines (Ok read) reads is = (
