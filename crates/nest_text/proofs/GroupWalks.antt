@@ -22,7 +22,7 @@ use Rattle.text_laws.proofs.WholeLines.{line_more}
 
 -- ---- A line more
 
--- a line that begins no group stands in front
+-- a line that begins no group comes before others
 pub not_begun : (line : SourceLine) (kind : Kind) (behind : Parted) → ((name : List ℕ) → kind ≡ kinds.Begins name → ⊥)
     → with_line line kind behind ≡ record { front = line ∷ behind.front; groups = behind.groups }
 not_begun line (kinds.Begins name) behind not = absurd (not name refl)
@@ -303,7 +303,7 @@ zip_more R [] (b ∷ ys) x y all one = absurd all
 zip_more R (a ∷ xs) [] x y all one = absurd all
 zip_more R (a ∷ xs) (b ∷ ys) x y all one = (all.0, zip_more R xs ys x y all.1 one)
 
--- The next group, behind those that are read.
+-- The next group, after those that were read.
 pub record GroupAhead (text : List ℕ) (number : ℕ) (name : List ℕ) (behind : List ℕ) (made : List Group) (heads : List ℕ) : Type 0 where
   pub lines : List SourceLine
   pub are_lines : AreLines 1 text lines

@@ -47,7 +47,7 @@ of_lines first text Says lines are said = λ others also. subst Says (same_lines
 
 -- ---- A line that is cut off
 
--- The first of the lines is this one, of this kind, and the others are those of what stands behind it.
+-- The first of the lines is this one, of this kind, and the others are those of the text after it.
 pub record NextLine (first : ℕ) (line behind : List ℕ) (kind : Kind) (lines : List SourceLine) : Type 0 where
   pub others : List SourceLine
   pub cut : lines ≡ record { number = first; bytes = line; kind = kind } ∷ others
@@ -123,7 +123,7 @@ stray_none text rest number place so_far none =
 
 -- ---- What the first line that strays is
 
--- Behind a place, the line of this number is the first that may not stand where it is.
+-- After a place, the line with this number is the first that is not allowed where it is.
 pub record StraysBehind (place : Place) (lines : List SourceLine) (number : ℕ) : Type 0 where
   pub before : List SourceLine
   pub line : SourceLine

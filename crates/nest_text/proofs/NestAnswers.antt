@@ -15,7 +15,7 @@ use Rattle.nest_text.specs.declared.nest.Group.{Group}
 use Rattle.nest_text.proofs.GroupWalks.{groups_read}
 use Rattle.nest_text.proofs.TextCuts.{cut_of}
 
--- what is owed where a part gave up
+-- what has to be proved where a part failed
 pub handed_on : {X E : Type 0} (result : Result X E) (why : E) (Owes : Result X E → Type 0) → IsErrAnd result (λ found. found ≡ why) → Owes (Err why)
     → Owes result
 handed_on (Ok x) why Owes is owed = absurd is
