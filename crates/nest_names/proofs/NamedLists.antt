@@ -22,7 +22,7 @@ pub inside_last : (lists : List (List ℕ)) (one : List ℕ) → inside_of (list
 inside_last [] one = refl
 inside_last (first ∷ lists) one = inside_last lists one
 
--- The places that a number stands for.
+-- The list for the number of a name.
 abbrev pub told : List (List ℕ) → Option ℕ → List ℕ
 told lists number = unwrap_or (option_map (inside_of lists) number) []
 
@@ -132,6 +132,6 @@ pub on_ok : {A E P Q : Type 0} (result : Result A E) → (P → Q) → OnOk resu
 on_ok (Ok done) leads is = leads is
 on_ok (Err why) leads is = tt
 
--- The list of a number, as it stands among the lists.
+-- The list with a number, as it is among the lists.
 pub list_there : (lists : List (List ℕ)) (number : ℕ) (one : List ℕ) → number < length lists → one ≡ get_or lists number one → one ≡ inside_of lists number
 list_there lists number one within is = sym (ap (λ found. unwrap_or found []) (read_at lists number one within is))
