@@ -38,7 +38,7 @@ same_cut digits decimals text number other false true cut no_sign spelled is = a
 same_cut digits decimals text number other false false cut no_sign spelled is =
     (refl, subst (IsNumber digits decimals) (sym spelled ∙ cut) is)
 
--- what stands behind the sign that the code has cut off
+-- the text after the sign that the code has cut off
 pub signed_parts : (word : ℤ) (decimals : ℕ) (text number : List ℕ) (negative : Bool) → text ≡ sign_text negative ++ number
     → OnFalse negative ((rest : List ℕ) → text ≢ 45 ∷ rest) → (is : IsSignedNumber word decimals text)
     → IsNumber is.digits decimals number × (with_sign negative is.digits ≡ word)
@@ -73,7 +73,7 @@ not_both false word decimals text truth is =
     not_signed is.negative is.digits decimals 102 (97 ∷ 108 ∷ 115 ∷ 101 ∷ []) is.number refl (λ e. omega arith)
     (sym false_bytes ∙ sym truth ∙ is.spelled) is.is_number
 
--- behind a `-` no number begins with `-`, and no number does
+-- no number begins with `-`, and so none after a `-` does
 no_second_sign : (digits decimals : ℕ) (text number : List ℕ) (negative : Bool) → text ≡ sign_text negative ++ number → IsNumber digits decimals number
     → OnFalse negative ((rest : List ℕ) → text ≢ 45 ∷ rest)
 no_second_sign digits decimals text number true spelled is = tt

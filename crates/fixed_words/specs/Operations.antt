@@ -45,7 +45,7 @@ abbrev pub quotient : ℤ → ℤ → Outcome
 quotient dividend divisor =
     if is_zero divisor then Err ZeroDivisor else word_of (floor_quotient dividend divisor)
 
--- `mod`: what the floor of the quotient leaves
+-- `mod`: the remainder of the floor of the quotient
 abbrev pub remainder : ℤ → ℤ → Outcome
 remainder dividend divisor =
     if is_zero divisor then Err ZeroDivisor else word_of (dividend -ℤ (divisor *ℤ floor_quotient dividend divisor))
@@ -74,6 +74,6 @@ scaled_up decimals word = word_of (word *ℤ ten_to decimals)
 abbrev pub scaled_down : ℕ → ℤ → Outcome
 scaled_down decimals word = word_of (floor_quotient word (ten_to decimals))
 
--- `clamp`: the word brought into the bounds; where they cross, the low one
+-- `clamp`: the value, or the bound that it passes; where the low bound is above the high one, the low one
 abbrev pub clamped : ℤ → ℤ → ℤ → ℤ
 clamped word low high = int_max low (int_min word high)

@@ -76,7 +76,7 @@ impl<T> List<T> {
 }
 
 impl<T: Drop> List<T> {
-    /// Puts `item` at `place`, counted from 0.
+    /// Sets the element at `place`, counted from 0, to `item`.
     pub fn set(&mut self, place: usize, item: T)
         requires { place < length self.old }
         ensures { self.new ≡ slice_set self.old place item }
@@ -84,7 +84,7 @@ impl<T: Drop> List<T> {
         self.items[place] = item;
     }
 
-    /// Adds `item` at the end. Where there is no memory the list is as before.
+    /// Adds `item` at the end. Where there is no memory, the list is unchanged.
     pub fn push(&mut self, item: T) -> Result<(), AllocError>
         ensures ok { OnOk result (self.new ≡ self.old ++ item ∷ []) }
         ensures err { OnErr result (self.new ≡ self.old) }

@@ -74,7 +74,7 @@ pub fn abs(a: i64) -> Result<i64, Fault>
     a.checked_abs().ok_or(Fault::Overflow)
 }
 
-/// The quotient rounded towards minus infinity, and what it leaves. Both fit, since -1 is no divisor here.
+/// The quotient rounded towards minus infinity, and the remainder. Both fit, since the divisor is not -1 here.
 #[inline]
 fn floor_and_rest(dividend: i64, divisor: i64) -> (i64, i64)
     requires not_zero { divisor ≢ pos 0 }
@@ -104,7 +104,7 @@ pub fn div(a: i64, b: i64) -> Result<i64, Fault>
     }
 }
 
-/// `mod`: what [`div`] leaves, with the divisor's sign. [`Fault::ZeroDivisor`] where `b` is zero.
+/// `mod`: the remainder of [`div`], with the divisor's sign. [`Fault::ZeroDivisor`] where `b` is zero.
 #[inline]
 pub fn rem(a: i64, b: i64) -> Result<i64, Fault>
     ensures { result ≡ remainder a b }
@@ -191,8 +191,8 @@ pub fn scale_up(word: i64, n: u8) -> Result<i64, Fault>
     mul(word, unit_word(n))
 }
 
-/// The word divided by a positive number and rounded towards minus infinity. It is compiled for each number by itself,
-/// as a multiplication.
+/// The word divided by a positive number and rounded towards minus infinity. Each caller passes a constant, so that it
+/// is compiled as a multiplication.
 #[inline(always)]
 fn floor_by(word: i64, divisor: i64) -> i64
     requires { pos 1 <ℤ divisor }
