@@ -1,4 +1,5 @@
--- Every nest breaks no rule or is refused: each rule can be told of each group, so that there is a least line.
+-- Every nest breaks no rule or is refused: each rule can be decided for each group, so that there is a least
+-- line.
 use Rattle.std.proofs.Common.{◌≡◌, ◌≤◌, ◌<◌, ℕ, zero, suc, ◌+◌, Bool, true, false, List, [], ◌∷◌, ◌++◌, length, map, inl, inr, Option, Some, None, refl, sym, ap, subst, arith, get_or, length-append}
 use Rattle.std.specs.Prelude.{◌⊎◌, nat_le, slice_get}
 use Rattle.std.specs.List.{list_all}

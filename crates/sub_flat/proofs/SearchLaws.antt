@@ -45,7 +45,7 @@ leads_on : (inner : ℕ → List ℕ) (count from between to : ℕ) → Leads in
 leads_on inner zero from between to first last = (between, first, last)
 leads_on inner (suc count) from between to (next, first, rest) last = (next, first, leads_on inner count next between to rest last)
 
--- The group is the one that is looked for, or is led to from it.
+-- The group is the searched one, or is contained in it.
 abbrev pub IsReached : (ℕ → List ℕ) → ℕ → ℕ → Type 0
 IsReached inner start place = (place ≡ start) ⊎ ((count : ℕ) × Leads inner count start place)
 
@@ -55,7 +55,7 @@ reached_on inner start from to (inr (count, leads)) last = (suc count, leads_on 
 
 -- ---- The search
 
--- A group doesn't lead to the one that is looked for, and all that it leads to were found.
+-- A group doesn't contain the searched one, and all groups inside it were found.
 abbrev pub IsClosed : (ℕ → List ℕ) → ℕ → List Bool → ℕ → Type 0
 IsClosed inner start seen place = (other : ℕ) → IsAmong (inner place) other → (other ≡ start → ⊥) × IsSeen seen other
 
@@ -144,7 +144,7 @@ pub search_none : (inner : ℕ → List ℕ) (start count : ℕ) (seen : List Bo
 search_none inner start count seen pending so_far none length leads =
     no_way inner start count seen (subst (SearchedSoFar inner start count seen) none so_far) length start (inl refl) leads
 
--- What was told of the groups inside one is what the search needs.
+-- The result for the groups inside one is what the search needs.
 pub search_told : (inner : ℕ → List ℕ) (start count from : ℕ) (seen seen' : List Bool) (pending front pending' here : List ℕ) (told : Bool)
     → SearchedSoFar inner start count seen pending → pending ≡ front ++ (from ∷ []) → here ≡ inner from → told ≡ true
     → Spreads here start seen seen' front pending' told → LeadsBack inner start
