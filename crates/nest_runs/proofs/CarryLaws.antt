@@ -80,7 +80,7 @@ module _ (nest : Nest) (sound : IsSound nest) (values : PortValues) (carried : A
         inner_is = refl;
       }) has)
 
-  -- An input that a connection leads to has what the connection's source has.
+  -- An input that a connection reaches has the value of the connection's source.
   pub carried_to : (one : Connection) (count : ℕ) (to : Spot) → Has (all nest sound) one → Way nest count one.to to
       → values.ins (port_at nest to) ≡ Some (values.outs (OfComponent (source nest one)))
   carried_to one count to has way =

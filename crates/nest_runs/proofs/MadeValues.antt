@@ -85,7 +85,7 @@ module _ (nest : Nest) (sound : IsSound nest) (signals : Signals) where
   made_outs (OfComponent port) = given port
   made_outs (OfGroup spot) = given (flat_port (follow nest levels spot))
 
-  -- Whether a connection leads to the port.
+  -- Whether a connection reaches the port.
   abbrev leads_to : NestPort → Connection → Bool
   leads_to port one = list_any (λ spot. same_nest_port port (port_at nest spot)) (ways nest levels one.to)
 
@@ -118,7 +118,7 @@ module _ (nest : Nest) (sound : IsSound nest) (signals : Signals) where
 
   -- ---- Inputs
 
-  -- A connection that leads to a port, and the way there.
+  -- A connection that reaches a port, and the path to it.
   record Leading (port : NestPort) (one : Connection) : Type 0 where
     spot : Spot
     count : ℕ
@@ -131,7 +131,7 @@ module _ (nest : Nest) (sound : IsSound nest) (signals : Signals) where
       let way = way_of nest levels one.to found.one found.has in
       record { spot = found.one; count = way.count; way = way.way; is = same_ports port (port_at nest found.one) found.passes }
 
-  -- Where one leads to a port, the port has what the source of that has.
+  -- If a connection reaches a port, the port has the value of its source.
   found_by : (port : NestPort) (one : Connection) (count : ℕ) (spot : Spot) → Has (all nest sound) one → Way nest count one.to spot
       → port_at nest spot ≡ port → made_ins port ≡ Some (given (source nest one))
   found_by port one count spot has way is =

@@ -131,7 +131,7 @@ module _ (nest : Nest) where
       (instances_of nest is.0.group) is.2.instance leaf (contained (instances_of nest is.0.group) is.2.instance is.2.stands)
       (subst (λ found. Has (unwrap_or (option_map (leaves nest rest) found) (named_in is.0 is.2.instance ∷ [])) leaf) (sym is.2.leads) has))
 
--- ---- What rules tell
+-- ---- What follows from the rules
 
 module _ (nest : Nest) (sound : IsSound nest) where
   -- Of a group at a place, rules 27 and 29.

@@ -114,7 +114,7 @@ module _ (signals others : Signals) (component : Component) (factor : ℕ) (sour
 -- ---- All members
 
 module _ (signals others : Signals) where
-  -- Of two members that see alike, with the second written by the first.
+  -- Two members that read the same, with the second given by the first.
   module _ (P : EventMember → EventMember → Type 0)
       (same : (component : Component) (factor : ℕ) (sources sources' : List InputSource) (feeds feeds' : List (Option ℕ))
       → map (word_from signals) sources ≡ map (word_from others) sources' → map (signal_from signals) feeds ≡ map (signal_from others) feeds'
@@ -124,7 +124,7 @@ module _ (signals others : Signals) where
         subst (P one) (sym alike.other_is)
         (same one.member.component one.member.factor one.member.sources other.member.sources one.feeds other.feeds alike.words alike.feeds)
 
-  -- What is made of each standing is the same, where it is of two members that see alike.
+  -- The same is computed for two members that read the same.
   module _ {B : Type 0} (f g : EventMember × List ℤ → B)
       (same : (one other : EventMember) (state : List ℤ) → SeesAlike signals others one other → f (one, state) ≡ g (other, state)) where
     each_same : (ones them : List EventMember) (states : List (List ℤ)) → SeeAlike signals others ones them

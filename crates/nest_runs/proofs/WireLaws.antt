@@ -85,7 +85,7 @@ module _ (nest : Nest) where
           ap₂ (λ here others. here ++ others) (by same (scope_of nest scope instance)) (each same instances)
           ∙ sym (flat_map-append made_flat (inner_connections depth scope instance) (flat_map (inner_connections depth scope) instances))
 
-  -- ---- Where a connection stands
+  -- ---- The scope of a connection
 
   pub record Standing (one : Connection) : Type 0 where
     pub depth : ℕ
@@ -287,7 +287,7 @@ module _ (nest : Nest) (sound : IsSound nest) where
       only_deep to depth is spot (inl same) = inr (depth, subst (λ (s : Spot). IsScopeAt nest depth s.scope) same is, omega arith)
       only_deep to depth is spot (inr none) = absurd none
 
-  -- No two lead to one input.
+  -- No two connections reach the same input.
   same_source : (one other : Connection) (leaf leaf' : Spot) (count count' : ℕ) → Has all one → Has all other → Way nest count one.to leaf
       → Way nest count' other.to leaf' → is_component nest leaf ≡ true → is_component nest leaf' ≡ true → flat_port leaf ≡ flat_port leaf'
       → source nest one ≡ source nest other
@@ -296,7 +296,7 @@ module _ (nest : Nest) (sound : IsSound nest) where
       (same_wire flat.wires (wire_to nest one leaf) (wire_to nest other leaf') (is_wired flat sound.well_formed).once
       (becomes one count leaf has way is) (becomes other count' leaf' has' way' is') same)
 
-  -- Connections that lead to one port come from one output.
+  -- Connections that reach the same port come from the same output.
   pub agree : (one other : Connection) (to to' : Spot) (count count' : ℕ) → Has all one → Has all other → Way nest count one.to to
       → Way nest count' other.to to' → port_at nest to ≡ port_at nest to' → source nest one ≡ source nest other
   agree one other to to' count count' has has' way way' same = by (is_component nest to) refl
