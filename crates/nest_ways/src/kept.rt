@@ -13,8 +13,9 @@ use fixed_words::{List, NoMemory};
 use nest_names::at;
 use std::alloc::Global;
 
-/// The most inputs that are kept of one input. Few walks come to one that leads to more, since a system has no more than 2,048 connections.
-/// Some 40,000 inputs of groups may have two lines or more, and a list and a set of numbers each, so that longer ones would take much memory.
+/// The most inputs that are kept for one input. Few walks meet one that reaches more, since a system has at most 2,048
+/// connections. Some 40,000 inputs of groups may have two lines or more, each with a list and a set of numbers. So
+/// longer lists would take much memory.
 const MOST_KEPT: usize = 128;
 
 /// Adds the inputs of components that a step of an input of a group reaches, where they are known to be few. Returns
