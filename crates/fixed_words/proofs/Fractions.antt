@@ -36,7 +36,7 @@ front_stays old first one all is front =
 pub zeros_are : (count : ℕ) → count ≤ 9 → take {A = ℕ} count (48 ∷ 48 ∷ 48 ∷ 48 ∷ 48 ∷ 48 ∷ 48 ∷ 48 ∷ 48 ∷ []) ≡ replicate count 48
 zeros_are count few = let zero_digit : ℕ = 48 in take-replicate count 9 zero_digit few
 
--- three pieces appended one after the other
+-- three pieces that are appended in turn
 pub three_pieces : (old first second third one two all : List ℕ) → one ≡ old ++ first → two ≡ one ++ second → all ≡ two ++ third
     → all ≡ old ++ (first ++ (second ++ third))
 three_pieces old first second third one two all is_one is_two is_all =

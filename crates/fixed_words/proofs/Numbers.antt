@@ -40,7 +40,7 @@ pub digits_from_read : (before : ℕ) (bytes : List ℕ) (number : ℕ) → IsRe
 digits_from_read before bytes number read =
     rw (read.all_digits, read.makes, le-leb number (2 ^ 63) read.bounded)
 
--- the digits that come first make no more than all of them
+-- the first digits give no larger number than all of them
 pub first_bounded : (before : ℕ) (first later : List ℕ) → number_from before (first ++ later) ≤ 2 ^ 63 → number_from before first ≤ 2 ^ 63
 first_bounded before first later within =
     omega (arith, number_from-append before first later, number_from-ge (number_from before first) later)
@@ -186,7 +186,7 @@ parts_at digits decimals text fraction place is behind number =
     let parts = subst (λ n. HasParts digits decimals n (number_from 0 number.whole) text) (sym is) (parts_of_number digits decimals text number) in
     (number_from 0 number.whole, parts, ap length behind ∙ parts.decimals_are, ap (number_of_digits (number_from 0 number.whole)) behind ∙ parts.then_read)
 
--- a text is one number only
+-- a text spells at most one number
 pub one_number : (one other few many : ℕ) (text : List ℕ) → IsNumber one few text → IsNumber other many text → (one ≡ other) × (few ≡ many)
 one_number one other few many text is also =
     let first = parts_of_number one few text is in

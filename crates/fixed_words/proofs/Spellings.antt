@@ -26,7 +26,7 @@ number_first : (digits decimals byte : ℕ) (others : List ℕ) → is_digit byt
 number_first digits decimals byte others other_byte number =
     no_digit_first number.whole number.fraction others byte number.is_whole.0 number.is_whole.1 other_byte number.spelled
 
--- two ways to cut a sign off are one
+-- a sign can be cut off in only one way
 same_cut : (digits decimals : ℕ) (text number other : List ℕ) (negative minus : Bool) → text ≡ sign_text negative ++ number
     → OnFalse negative ((rest : List ℕ) → text ≢ 45 ∷ rest) → text ≡ sign_text minus ++ other → IsNumber digits decimals other
     → (minus ≡ negative) × IsNumber digits decimals number

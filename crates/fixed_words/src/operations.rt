@@ -155,7 +155,8 @@ fn wide_quotient(a: i64, b: i64, divisor: i64) -> Result<i64, Fault>
     fitting(wide_floor(product_of(a, b), i128::from(divisor)))
 }
 
-/// `*` of two fixed-point words of `n` decimals, rounded towards minus infinity.
+/// `*` of two fixed-point words of `n` decimals, rounded towards minus infinity. [`Fault::Overflow`] where the result
+/// does not fit 64 bits.
 #[inline(always)]
 pub fn fix_mul(a: i64, b: i64, n: u8) -> Result<i64, Fault>
     requires { n ≤ 9 }
@@ -167,8 +168,8 @@ pub fn fix_mul(a: i64, b: i64, n: u8) -> Result<i64, Fault>
     }
 }
 
-/// `/` of two fixed-point words of `n` decimals, rounded towards minus infinity.
-/// [`Fault::ZeroDivisor`] where `b` is zero.
+/// `/` of two fixed-point words of `n` decimals, rounded towards minus infinity. [`Fault::ZeroDivisor`] where `b` is
+/// zero, and [`Fault::Overflow`] where the result does not fit 64 bits.
 #[inline(always)]
 pub fn fix_div(a: i64, b: i64, n: u8) -> Result<i64, Fault>
     requires { n ≤ 9 }
@@ -182,7 +183,7 @@ pub fn fix_div(a: i64, b: i64, n: u8) -> Result<i64, Fault>
     }
 }
 
-/// The word with `n` decimals more.
+/// The word with `n` more decimals. [`Fault::Overflow`] where it does not fit 64 bits.
 #[inline(always)]
 pub fn scale_up(word: i64, n: u8) -> Result<i64, Fault>
     requires { n ≤ 9 }
@@ -221,7 +222,7 @@ fn without_decimals(word: i64, n: u8) -> i64
     }
 }
 
-/// The word with `n` decimals fewer, rounded towards minus infinity.
+/// The word with `n` fewer decimals, rounded towards minus infinity. It is never a fault.
 #[inline(always)]
 pub fn scale_down(word: i64, n: u8) -> Result<i64, Fault>
     requires { n ≤ 9 }

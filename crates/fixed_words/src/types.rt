@@ -58,7 +58,7 @@ pub enum Fault {
     ZeroDivisor,
     /// Fault 4: a component accepts a length below 0 or above the step that it was asked for.
     Accept,
-    /// Fault 5: a component gives a negative greatest step.
+    /// Fault 5: `max` of a component gives a negative number.
     Max,
 }
 
