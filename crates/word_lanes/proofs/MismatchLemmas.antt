@@ -81,7 +81,7 @@ abbrev pub mask_of : List ℤ → List ℤ → ℕ
 mask_of xs ys = mask_l (map (top 63) (ne_lanes xs ys)) % 2 ^ 64
 
 module _ (xs ys : List ℤ) (same_length : length xs ≡ length ys) (few : length xs ≤ 64) where
-  -- the mask of so few lanes loses no bit
+  -- the mask of this many lanes loses no bit
   mask_is : mask_of xs ys ≡ mask_l (map (top 63) (ne_lanes xs ys))
   mask_is = mask_l-mod (map (top 63) (ne_lanes xs ys)) 64 (omega (arith, length-map (ne_lanes xs ys) (top 63), length-ne_lanes xs ys same_length))
 
