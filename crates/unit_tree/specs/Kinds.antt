@@ -96,7 +96,7 @@ abbrev pub is_of_kind : Option Kind → Option Kind → Bool
 is_of_kind (Some x) (Some y) = same_kind x y
 is_of_kind _ _ = false
 
--- Whether lines have the right kinds, for the kinds of names.
+-- A test of whether lines have the right kinds, given the kinds of names.
 abbrev pub KindTest : Type 0
 KindTest = KindsOfNames → Bool
 

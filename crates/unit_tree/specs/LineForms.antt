@@ -23,7 +23,7 @@ use Rattle.unit_tree.specs.declared.token.Token.TheVariants as token
 
 -- ---- The beginning of a line
 
--- A type by its name, which is no reserved word.
+-- A type by its name, which is not a reserved word.
 abbrev pub type_tokens : Ty → List Token
 type_tokens types.Int8 = token.Name (codes "Int8") ∷ []
 type_tokens types.UInt8 = token.Name (codes "UInt8") ∷ []

@@ -134,7 +134,7 @@ output_names unit = port_names (output_ports unit)
 abbrev pub event_input_names : Unit → List (List ℕ)
 event_input_names unit = map (λ event. event.name) unit.events_in
 
--- What an expression may use: names, event inputs in `present`, and perhaps `t` and `h`.
+-- What an expression may use: names, event inputs in `present`, and whether `t` and `h`.
 pub record Uses : Type 0 where
   pub names : List (List ℕ)
   pub events : List (List ℕ)
@@ -147,11 +147,11 @@ shared_names unit = param_names unit ++ map (λ state. state.name) unit.states +
 abbrev pub output_uses : Unit → Uses
 output_uses unit = record { names = shared_names unit; events = event_input_names unit; clocks = no_clock }
 
--- `max` may use these, and `t`.
+-- `max` may use the same, and `t`.
 abbrev pub max_uses : Unit → Uses
 max_uses unit = record { names = shared_names unit; events = event_input_names unit; clocks = record { time = true; step = false } }
 
--- A step may use these, locals, `t` and `h`.
+-- A step may use the same, locals, `t` and `h`.
 abbrev pub step_uses : Unit → Uses
 step_uses unit = record {
   names = map (λ local. local.name) unit.locals ++ shared_names unit;

@@ -47,7 +47,7 @@ steps_by run at ports h = map (step_at at.point.t h ports) (standings run at)
 abbrev pub trial : Composition → Position → Ports → List (Option (Result Moved Fault))
 trial run at ports = steps_by run at ports (proposed run at ports)
 
--- The replies to a step of h.
+-- The replies to a step of length h.
 abbrev pub replies_to : Composition → Position → Ports → ℕ → List ℕ
 replies_to run at ports h = map (reply_at at.point.t h) (zip run.members (steps_by run at ports h))
 

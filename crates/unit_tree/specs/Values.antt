@@ -39,7 +39,7 @@ truth false = record { kind = kinds.Bool; word = pos 0 }
 abbrev pub holds : Value → Bool
 holds value = not (is_zero value.word)
 
--- A number that is written with decimals is a fixed-point one with as many.
+-- The kind of a number that is written with this many decimals: Int for none, else fixed point.
 abbrev pub kind_of_number : ℕ → Kind
 kind_of_number zero = kinds.Int
 kind_of_number decimals = kinds.Fixed decimals

@@ -5,7 +5,7 @@ use fixed_words::Fault;
 pub enum Place {
     /// In an output, by its number from 0 in the plain form of the unit, where an event output is two outputs.
     Output(u32),
-    /// In its greatest step, `max`.
+    /// In its `max`.
     Max,
     /// In a step.
     Step,

@@ -17,7 +17,7 @@ pub trait Gets {
     /// The words of each instance's inputs.
     ghost inputs: { Self → List (List ℤ) };
 
-    /// Sets one input.
+    /// Sets one input to a word.
     fn set(&mut self, instance: u32, input: u32, word: i64)
         requires { IsInputWord (run_of (system self.old)) instance input word }
         ensures inputs { inputs self.new ≡ with_input (inputs self.old) instance input word }

@@ -42,7 +42,7 @@ pub enum LineForm {
     If(Expr),
     /// `else`
     Else,
-    /// `repeat K`, which opens a block; from 1 to 1,000 times.
+    /// `repeat K`, which opens a block that is run K times, from 1 to 1,000.
     Repeat(u32),
     /// `accept e`
     Accept(Expr),
