@@ -25,7 +25,7 @@ use Rattle.unit_tree.proofs.FoldLemmas.{fold-Assign, fold-If, fold-Repeat, fold-
 use Rattle.language_laws.proofs.PartLaws.{grouped, unit_is}
 use Rattle.list_laws.proofs.Lists.{all_of_two, each_append, none_cut, each_map}
 
--- ---- Lists that are cut at a member
+-- ---- Lists that are split at a member
 
 record InFront {A : Type 0} (xs before : List A) (x : A) : Type 0 where
   rest : List A
@@ -201,7 +201,7 @@ heads_on_level scope earlier (first ∷ others) below =
     (on_level-append scope first.block (sites scope (earlier ++ (first.head ∷ [])) others)
     ∙ rw (none_on_level scope first.block below.0) (heads_on_level scope (earlier ++ (first.head ∷ [])) others below.1)))
 
--- ---- Facts of each of many
+-- ---- A fact of each element
 
 pub each_front : {A : Type 0} (P : A → Type 0) (xs : List A) (y : A) (ys : List A) → AllByRecursion P (xs ++ (y ∷ ys)) → AllByRecursion P xs × P y
 each_front P [] y ys all = (_, all.0)
@@ -222,7 +222,7 @@ each_alone : (P : Headed → Type 0) (lines : List LineForm) → ((one : LineFor
 each_alone P [] is = _
 each_alone P (one ∷ lines) is = (is one, each_alone P lines is)
 
--- ---- Step lines are held by steps
+-- ---- Step lines are allowed in steps
 
 abbrev AreStepLines : Line → Type 0
 AreStepLines some = list_all is_step_line (line_forms some) ≡ true
@@ -357,7 +357,7 @@ all_unit_heads unit inside =
     each_append (IsUnitHead unit) (flat_map (headed_unit_part unit) inside) (alone form.End ∷ []) (unit_heads unit inside)
     (record { held = refl; block = inl refl }, _)
 
--- A fact of the sites of a step holds in the block of each line of a unit.
+-- A fact of the sites of a step is true in the block of each line of a unit.
 in_step_block : (P : Site → Type 0) (unit : Unit)
     → ((before : List LineForm) (one : LineForm) → P (record { scope = StepScope unit; earlier = before; line = one })) → (headed : Headed)
     → IsUnitHead unit headed → AllByRecursion P headed.block

@@ -56,7 +56,7 @@ stay_both scope blocks between after xs ys on_xs on_ys = record {
 
 -- ---- Step lines
 
--- A step line closes what it opens, and in a step, or in a block there, each of its lines has the scope of the step.
+-- A step line closes what it opens. In a step, or in a block there, each of its lines has the scope of the step.
 pub record IsInStep (some : Line) : Type 0 where
   pub closed : (blocks : List Block) → fold behind blocks (line_forms some) ≡ blocks
   pub are_in : (unit : Unit) (blocks : List Block) → in_step blocks ≡ true → AreIn (StepScope unit) blocks (line_forms some)
@@ -81,7 +81,7 @@ all_in unit (one ∷ lines) blocks is =
     are_in_both (StepScope unit) blocks (line_forms one.0) (forms_in lines) (one.1.are_in unit blocks is)
     (subst (λ all. AreIn (StepScope unit) all (forms_in lines)) (sym (one.1.closed blocks)) (all_in unit lines blocks is))
 
--- The lines of a block, and what closes it.
+-- The lines of a block, and the line that closes it.
 pub block_closed : (lines : List Stepped) (rest : List LineForm) (blocks after : List Block) → fold behind blocks rest ≡ after
     → fold behind blocks (forms_in lines ++ rest) ≡ after
 block_closed lines rest blocks after is = fold-append behind blocks (forms_in lines) rest ∙ ap (λ all. fold behind all rest) (all_closed lines blocks) ∙ is

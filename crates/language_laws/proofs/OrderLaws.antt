@@ -51,7 +51,7 @@ place_of system before (first ∷ order) port orderly (inr later) =
       after_needs = subst (λ front. AllByRecursion (IsIn front) (needed_by system port)) (append_assoc before (first ∷ []) placed.front) placed.after_needs;
     }
 
--- What a port of an orderly list depends on comes before it.
+-- Each port that a port of an orderly list depends on comes before it.
 pub record Before (order : List PortName) (port other : PortName) : Type 0 where
   pub front : List PortName
   pub behind : List PortName

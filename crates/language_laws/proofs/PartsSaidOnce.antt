@@ -29,7 +29,7 @@ pub record UnitSaysOnce (all : List UnitPart) : Type 0 where
   pub max : length (filter (λ part. unit_part_rank part == 8) all) ≤ 1
   pub step : length (filter (λ part. unit_part_rank part == 9) all) ≤ 1
 
--- The same of each unit.
+-- The same for each unit.
 abbrev pub UnitsSayOnce : List Part → Type 0
 UnitsSayOnce [] = ⊤
 UnitsSayOnce (parts.HasUnit name inside ∷ all) = UnitSaysOnce inside × UnitsSayOnce all

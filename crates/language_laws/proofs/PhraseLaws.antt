@@ -1,4 +1,4 @@
--- Canonical phrases are those of their trees, and the grammar allows them.
+-- Canonical phrases have their trees, and the grammar allows them.
 use Rattle.std.proofs.Common.{◌≡◌, ℕ, Bool, true, false, cond, ◌&&◌, ℤ, pos, negsuc, refl, ap, sym, subst, ◌∙◌, rules, arith}
 use Rattle.std.proofs.lemmas.Bool.{and_parts}
 use Rattle.std.specs.Prelude.{unsigned_abs, not}

@@ -301,7 +301,7 @@ unit_becomes system unit =
     ap (λ said. parts.HasUnit unit.name (flat_map (plain_unit_part said) (unit_parts unit)) ∷ []) (unit_is unit)
     ∙ ap (λ inside. parts.HasUnit unit.name inside ∷ []) (plain_parts_are unit)
 
--- The plain form, but for what is sampled.
+-- The plain form, except for the sampled outputs.
 abbrev pub plain_system : System → System
 plain_system system = record system {
   units = map plain_unit system.units;

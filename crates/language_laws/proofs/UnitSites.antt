@@ -57,7 +57,7 @@ all_pass system ranged kept =
     (unmapped (λ line. AllByRecursion IsWord (names_on line)) (sites_of system)
     (subst (AllByRecursion (λ line. AllByRecursion IsWord (names_on line))) (sym (sites_are system)) ranged.names))
 
--- The lines of a unit, but for its own and its `end`.
+-- The lines of a unit, except its first one and its `end`.
 abbrev pub UnitHolds : (Site → Type 0) → Unit → Type 0
 UnitHolds P unit = Hold P (UnitScope unit) [] (flat_map (headed_unit_part unit) (unit_parts unit))
 

@@ -14,7 +14,7 @@ use Rattle.unit_tree.specs.declared.line_form.LineForm.{LineForm}
 use Rattle.language_laws.proofs.PartLaws.{grouped_ten}
 use Rattle.language_laws.proofs.PartsSaidOnce.{UnitSaysOnce}
 
--- ---- Lines that go along with themselves
+-- ---- The lines of parts, as a list with an element for each line
 
 -- Each part with its own lines, whatever follows them.
 pub own_lines : {P : Type 0} (rank : P → ℕ) (forms : P → List LineForm) (inside : P → List LineForm → List LineForm) (all : List P) (extra : List LineForm)
@@ -41,7 +41,7 @@ pub of_own : {P : Type 0} (rank : P → ℕ) (lines : P → List LineForm) (all 
 of_own rank lines [] asked = refl
 of_own rank lines (part ∷ all) asked = of_own_by (rank part == asked) rank lines part all asked refl (of_own rank lines all asked)
 
--- Lists that are joined, with equal ones in their places.
+-- Joined lists are equal where their pieces are.
 ten_lists : {a b c d e f g h i j a' b' c' d' e' f' g' h' i' j' : List LineForm} → a ≡ a' → b ≡ b' → c ≡ c' → d ≡ d' → e ≡ e' → f ≡ f' → g ≡ g' → h ≡ h'
     → i ≡ i' → j ≡ j'
     → a ++ (b ++ (c ++ (d ++ (e ++ (f ++ (g ++ (h ++ (i ++ (j ++ []))))))))) ≡ a' ++ (b' ++ (c' ++ (d' ++ (e' ++ (f' ++ (g' ++ (h' ++ (i' ++ (j' ++ [])))))))))

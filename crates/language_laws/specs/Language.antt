@@ -72,7 +72,7 @@ pub record SourceLinesAreRight : Type 0 where
   pub each_once : (version : ℕ) (parts : List Part) (lines : List ℕ) → length lines ≡ length (text_forms version parts)
       → IsPermutation (in_canonical_order parts lines) lines
 
--- A text is refused at one line and by one rule at most.
+-- A text is refused at most at one line and by one rule.
 abbrev pub IsRefusedOnce : Type 0
 IsRefusedOnce =
     (text : List ℕ) (line by other rule : ℕ) → IsRefused text line by → IsRefused text other rule → (line ≡ other) × (by ≡ rule)

@@ -1,6 +1,6 @@
 ghost use Rattle.language_laws.specs.Language.{IsRefusedOnce, SystemsAreJudgedOnce, SitesAreCanonicalLines, PlainLinesAreThose, CanonicalPartsSayTheSystem, CanonicalPhrasesAreRight, CyclesHaveNoOrder, OutputsHaveLines, SourceLinesAreRight};
 
-/// A law: a text is refused at one line and by one rule at most.
+/// A law: a text is refused at most at one line and by one rule.
 pub fn texts_are_refused_once()
     ensures { IsRefusedOnce }
 {}
