@@ -128,7 +128,7 @@ some_output system port d found = subst (λ p. is_none (output_at system p) ≡ 
 abbrev pub targets : List Wire → List PortName
 targets wires = map (λ (wire : Wire). wire.to) wires
 
--- Ports are looked for by their names.
+-- Ports are searched by their names.
 pub is_in : (ports : List PortName) (port : PortName) → list_any (same_port port) ports ≡ true → IsIn ports port
 is_in [] port told = absurd (cc)
 is_in (first ∷ ports) port told =
@@ -246,7 +246,7 @@ module _ (system : System) (ranged : IsRanged system) (kept : IsWellFormed syste
   itself_by true other one = inr (inl refl)
   itself_by false other one = inl refl
 
-  -- An output of the system, as the plain form has it, needs there what it needs in the system.
+  -- An output of the system needs in the plain form what it needs in the system.
   pub record Still (port source : PortName) : Type 0 where
     pub stands : IsIn (outputs_of system) source
     pub needed : IsIn (needed_by plain port) source

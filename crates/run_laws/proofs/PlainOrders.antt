@@ -213,7 +213,7 @@ names_are unit (output ∷ outputs) events = ap (λ rest. output.name ∷ rest) 
 abbrev pub event_name : EventOut → List ℕ
 event_name event = event.name
 
--- A name among those of both ports is an event's, or one of presence.
+-- A name among those of both ports is the event port's, or that of its `?` port.
 pub among_both : (events : List EventOut) (name : List ℕ) → Has (flat_map both_names events) name
     → Has (map event_name events) name ⊎ ((other : List ℕ) × Has (map event_name events) other × (name ≡ presence_name other))
 among_both [] name has = absurd has
@@ -289,7 +289,7 @@ plain_named [] name = refl
 plain_named (first ∷ units) name =
     plain_named_by (bytes_eq first.name name) first (unit_named (map plain_unit units) name) (unit_named units name) (plain_named units name)
 
--- A connection to a port, among some.
+-- A connection to a port, in a list.
 pub record Joined (wires : List Wire) (port source : PortName) : Type 0 where
   pub wire : Wire
   pub has : Has wires wire
@@ -437,7 +437,7 @@ module _ (system : System) (ranged : IsRanged system) (kept : IsWellFormed syste
   plain_name port stands = let d = declared system port stands in
       subst (λ (p : PortName). IsPlain p.port) d.is (plain_port_names system ranged d.unit d.unit_has d.output d.has).name
 
-  -- What two ports become is the same only where they are.
+  -- What two ports become is equal only where the ports are.
   pub same_origin : (one other made : PortName) → IsPlain one.port → IsPlain other.port → (one ≡ made) ⊎ (presence_port one ≡ made)
       → (other ≡ made) ⊎ (presence_port other ≡ made) → one ≡ other
   same_origin one other made plain_one_name plain_other_name (inl is) (inl is') = is ∙ sym is'
@@ -552,7 +552,7 @@ module _ (system : System) (ranged : IsRanged system) (kept : IsWellFormed syste
               (needed_in before from.declaring all from.stands from.needs)),
         )
 
-  -- What an output becomes, the plain form has.
+  -- The plain form has what an output becomes.
   pub made_stands : (port : PortName) → IsIn (outputs_of system) port → (made : PortName) → Has (split port) made → IsIn (outputs_of plain) made
   made_stands port stands =
       let d = declared system port stands in
