@@ -152,9 +152,9 @@ fronts_within (suc count) [] (word ∷ words) behind is within = absurd (none_un
 fronts_within (suc count) (one ∷ variables) (word ∷ words) behind is within =
     fronts_within count variables words behind (one_less word words one variables is) (omega (arith, within))
 
--- ---- Names of presence
+-- ---- Names of `?` ports
 
--- Variables of plain names are passed over.
+-- A search for the name of a `?` port passes over variables with plain names.
 pub passed : (variables : List Variable) (words : List ℤ) (behind : List Slot) (name : List ℕ) → AllByRecursion (λ one. IsWord one.name) variables
     → plain_value (same_slots variables words ++ behind) (presence_name name) ≡ plain_value behind (presence_name name)
 passed [] words behind name named = refl

@@ -174,7 +174,7 @@ module _ (occurring : Occurring) (events : List (List ℕ)) (count : ℕ) where
   pub accepting_alike : (length : ℤ) → EffectsAlike (accepting length) (accepting length)
   accepting_alike length both is = accepting_by (is_between (pos 0) (pos both.step) length) length both is
 
-  -- What follows the value of an expression.
+  -- The step after the value of an expression.
   pub value_next : (value : Expr) (next next' : Value → Effect) → Speaks events value → ((given : Value) → EffectsAlike (next given) (next' given))
       → EffectsAlike (λ env. value_of (plain_expression value) env >>= λ given. next given env)
       (λ env. value_in occurring value env >>= λ given. next' given env)

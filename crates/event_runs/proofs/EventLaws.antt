@@ -151,7 +151,7 @@ module _ (occurring : Occurring) (events : List (List ℕ)) (env plain : Environ
   abbrev pub Two : Expr → Type 0
   Two value = Speaks events value → AreTwo ty (event_in occurring value env) (plainly (presence_of value) plain) (plainly (word_expression_of ty value) plain)
 
-  -- An expression that is no choice.
+  -- An expression that is not a choice.
   pub no_choice : (value : Expr) → presence_of value ≡ expr.Truth true → word_expression_of ty value ≡ value
       → event_in occurring value env ≡ told_of ((telling occurring value).value env) → Two value
   no_choice value tells word told said =

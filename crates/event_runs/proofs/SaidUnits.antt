@@ -71,7 +71,7 @@ module _ (system : System) (unit : Unit) (declared : Declares (Passes system) un
   pub output_line : (output : Output) → Has unit.outputs output → AtLine (Passes system) unit (form.Output output)
   output_line output has = at (OfOutput output) (output_is_declared unit output has)
 
-  -- What an output may use, it keeps to.
+  -- An output uses only what it may use.
   used : (needs : List (List ℕ)) (value : Expr) → (not (keeps_to (output_uses unit) value) || not (are_among (input_names unit) needs)) ≡ false
       → are_among asks (events_asked_in value) ≡ true
   used needs value none =

@@ -145,7 +145,7 @@ module _ (shape : List Bool) (ports : Ports) (one : EventMember) (state : List �
     abbrev pub signals : Signals
     signals = read_ports shape ports
 
-    -- What an output of the plain form sees is what that of the source does.
+    -- What an output of the plain form reads is what that of the source does.
     pub seen_is : (needs : List (List ℕ)) (output : Output) → AllByRecursion IsWord needs → output.needs ≡ plain_needs unit needs
         → inputs_for ports (outlet_for output) ≡ option_map plain_words (seen_for signals needs one)
     seen_is needs output words needs_is =
