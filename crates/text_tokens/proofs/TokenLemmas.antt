@@ -592,7 +592,7 @@ pub completes_fail : (line : List ℕ) (tokens : List Token) (rest behind : List
 completes_fail line tokens rest behind so_far at some e =
     so_far.by None (tokens_none rest (rw (← at) some) (rw (← at) e))
 
--- a line spells tokens in one way
+-- a line spells at most one list of tokens
 pub spells_one : (tokens others : List Token) (line : List ℕ) → Spells tokens line → Spells others line → tokens ≡ others
 spells_one [] [] line a b = refl
 spells_one [] (other ∷ others) line a (rest, begins, more) =
@@ -603,7 +603,7 @@ spells_one (token ∷ tokens) others line (rest, begins, more) b =
     let parts = spells_some others line token rest (first_again line token rest begins) b in
     ap (λ (t : List Token). token ∷ t) (spells_one tokens parts.0 rest more parts.2) ∙ sym parts.1
 
--- every line spells tokens, or it spells none
+-- it is decided whether a line spells tokens
 abbrev pub Tokenized : List ℕ → Type 0
 Tokenized line = (found : Option (List Token)) × TokensAre line found
 
