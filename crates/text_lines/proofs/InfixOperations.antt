@@ -79,13 +79,13 @@ infix_keyword_is word.And = (refl, refl)
 infix_keyword_is word.Or = (refl, refl)
 infix_keyword_is _ = tt
 
--- So it is with each token.
+-- The same for each token.
 pub infix_is : (first : Token) → IfSome (infix_of first) (Reads first)
 infix_is (token.Symbol symbol) = infix_symbol_is symbol
 infix_is (token.Keyword keyword) = infix_keyword_is keyword
 infix_is _ = tt
 
--- A level allows what is no weaker.
+-- A level allows each level that is not weaker.
 pub allows_is : (asked level : Level) → allows asked level ≡ true → strength asked ≤ strength level
 allows_is asked level is = grind (arith, nat_tests)
 
@@ -121,7 +121,7 @@ takes_test asked left first rest op true true is one other =
 takes_test asked left first rest op true false is one other = tt
 takes_test asked left first rest op false other is one same = tt
 
--- So it is with what the first token is read as.
+-- The same for the operation that the first token is read as.
 takes_by : (asked left : Level) (first : Token) (rest : List Token) (found : Option BinOp) → IfSome found (Reads first)
     → IfSome (option_and_then (λ op. cond (allows asked (binary_level op) && allows (left_level (binary_level op)) left) (Some (op, rest)) None) found)
     (Takes asked left (first ∷ rest))
@@ -129,7 +129,7 @@ takes_by asked left first rest None is = tt
 takes_by asked left first rest (Some op) is =
     takes_test asked left first rest op (allows asked (binary_level op)) (allows (left_level (binary_level op)) left) is refl refl
 
--- So it is with the first of any tokens.
+-- The same for the first of any tokens.
 pub infix_at_is : (asked left : Level) (tokens : List Token) → IfSome (infix_at asked left tokens) (Takes asked left tokens)
 infix_at_is asked left [] = tt
 infix_at_is asked left (first ∷ rest) = takes_by asked left first rest (infix_of first) (infix_is first)
@@ -144,14 +144,14 @@ rises_by asked left tokens (Some other) op rest is same =
     let within = allows_is asked (binary_level other.0) is.asked_for in
     rw (← one) (omega arith)
 
--- So it is with the operation that comes first.
+-- The same for the operation that comes first.
 pub infix_at_rises : (asked left : Level) (tokens : List Token) (op : BinOp) (rest : List Token) → infix_at asked left tokens ≡ Some (op, rest)
     → strength asked < strength (right_level (binary_level op))
 infix_at_rises asked left tokens op rest same = rises_by asked left tokens (infix_at asked left tokens) op rest (infix_at_is asked left tokens) same
 
 -- ---- Reading step by step
 
--- What two functions that agree make of one reading.
+-- Two functions that agree give the same after one reading.
 pub then_same : {A B : Type 0} (found : Option A) (f g : A → Option B) → ((x : A) → f x ≡ g x) → option_and_then f found ≡ option_and_then g found
 then_same None f g same = refl
 then_same (Some x) f g same = same x
@@ -181,7 +181,7 @@ climb_agree one other asked (turn ∷ turns) left same =
     agree_by one other asked (climb one asked turns) (climb other asked turns) left (infix_at asked left.1 left.2) same
     (λ x. climb_agree one other asked turns x same) (infix_at_is asked left.1 left.2)
 
--- More levels than are left change nothing.
+-- More levels than there are left change nothing.
 steady : (inner : Reader) (levels_left : ℕ) (asked : Level) (tokens : List Token) → 8 < levels_left + strength asked
     → within inner (suc levels_left) asked tokens ≡ within inner levels_left asked tokens
 unfolding within

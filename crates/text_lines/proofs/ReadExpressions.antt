@@ -1,4 +1,4 @@
--- What is read of tokens is an expression that the grammar has, written with the first of them.
+-- An expression that is read is one that the grammar has, written with the first of the tokens.
 use Rattle.std.proofs.Common.{◌≡◌, ℕ, suc, zero, ◌<◌, ◌^◌, Bool, true, false, cond, ◌&&◌, ◌==◌, max, List, [], ◌∷◌, ◌++◌, Option, Some, None, refl, ap, sym}
 use Rattle.std.proofs.Common.{subst, ◌∙◌, arith, append_assoc, pos, nat_le, nat_lt}
 use Rattle.std.specs.Prelude.{IfSome, option_and_then}
@@ -44,7 +44,7 @@ pub if_holds : {B : Type 0} (test : Bool) (found : Option B) (Q : B → Type 0) 
 if_holds true found Q more = more refl
 if_holds false found Q more = tt
 
--- Symbols with one text are one.
+-- Symbols with the same text are the same.
 pub same_symbol_is : (one other : Symbol) → same_symbol one other ≡ true → one ≡ other
 same_symbol_is one other same =
     let texts : symbol_text one ≡ symbol_text other = (bytes_eq-Decides (symbol_text one) (symbol_text other)).0 same in
@@ -420,7 +420,7 @@ climb_is limit reader asked tokens (turn ∷ turns) left sound is =
     with_right_is limit reader asked tokens (climb reader asked turns) left (infix_at asked left.1 left.2) sound
     (λ x front. climb_is limit reader asked tokens turns x sound front) is (infix_at_is asked left.1 left.2)
 
--- So it is with any number of levels left.
+-- The same for any number of levels that are left.
 within_is : (limit : ℕ) (inner : Reader) (levels_left : ℕ) → IsSound limit inner → IsSound (suc limit) (within inner levels_left)
 unfolding within
 within_is limit inner zero sound asked tokens = tt
@@ -428,7 +428,7 @@ within_is limit inner (suc levels_left) sound asked tokens =
     then_holds (operand_at inner asked tokens) _ _ (IsFront (suc limit) asked tokens) (operand_at_is limit inner asked tokens sound) (λ left is.
     climb_is (suc limit) (within inner levels_left) asked tokens left.2 left (within_is limit inner levels_left sound) is)
 
--- Whatever is read is an expression that the grammar has there, nested no deeper than is allowed.
+-- Whatever is read is an expression that the grammar allows there, nested no deeper than allowed.
 pub read_is : (budget : ℕ) → IsSound (suc budget) (read budget)
 unfolding read
 read_is zero asked tokens = within_is 0 (λ level behind. None) 9 (λ level behind. tt) asked tokens

@@ -1,4 +1,4 @@
--- What tokens write is the form that is read of them: what is written is read again.
+-- The form that tokens write is the one that is read from them: what is written is read again.
 use Rattle.std.proofs.Common.{◌≡◌, ℕ, ◌≤◌, ◌^◌, Bool, true, false, ℤ, pos, nat_le, nat_lt, List, [], ◌∷◌, ◌++◌, append_assoc, Option, Some, None, Result, Ok}
 use Rattle.std.proofs.Common.{Err, refl, ap, sym, subst, ◌∙◌, arith}
 use Rattle.std.proofs.lemmas.Bool.{cond-true}
@@ -142,7 +142,7 @@ output_again output tail value few =
 
 -- ---- Lines
 
--- What each form is written with is read as it, whatever its tail.
+-- The tokens of each form are read as it, whatever its end is.
 pub form_again : (some : LineForm) (tail : List Token) → WritesTail (tail_of some) tail → AreCountsInRange some
     → read_form (front_tokens some ++ tail) ≡ Some some
 unfolding read_form header_form unit_form resolution_form param_form state_form local_form input_form event_input_form output_form event_output_form max_form
@@ -175,7 +175,7 @@ form_again (form.Zero count) tail is counts = rw (is, count_again 0 10000 count 
 form_again (form.Rows count) tail is counts = rw (is, count_again 1 100000 count [] counts.0 counts.1) refl
 form_again (form.Sample port) tail is counts = rw is refl
 
--- What the tokens write is read of them.
+-- What the tokens write is read from them.
 pub form_written : (some : LineForm) (tokens : List Token) → WritesForm some tokens → read_form tokens ≡ Some some
 form_written some tokens is = ap read_form is.spelled ∙ form_again some is.tail is.tail_is is.counts
 

@@ -27,7 +27,7 @@ use Rattle.text_lines.proofs.InfixOperations.{read_step}
 use Rattle.text_lines.proofs.PhraseTokens.{group_tokens, pair_tokens, clamp_tokens, choice_tokens}
 use Rattle.text_lines.proofs.ReadExpressions.{IsFront, IsSound, read_is, stands_allowed, stands_where, infix_nesting}
 
--- ---- Where reading goes no further
+-- ---- Where reading stops
 
 -- An infix operation that comes next may have an expression of the level on its left.
 abbrev pub Follows : Level → List Token → Type 0
@@ -88,7 +88,7 @@ ends_by : (asked left bound : Level) (first : Token) (rest : List Token) (found 
 ends_by asked left bound first rest None never reads follows = refl
 ends_by asked left bound first rest (Some op) never reads follows = rw (never op reads.1 follows) refl
 
--- So it is with the first of any tokens.
+-- The same for the first of any tokens.
 ends : (asked left bound : Level) (rest : List Token) → Never asked bound → Follows bound rest → infix_at asked left rest ≡ None
 ends asked left bound [] never follows = refl
 ends asked left bound (first ∷ rest) never follows = ends_by asked left bound first rest (infix_of first) never (infix_is first) follows
@@ -108,12 +108,12 @@ shorter limit asked tokens front is =
     let both = length-append (phrase_tokens is.written) front.2 in
     omega arith
 
--- Of no tokens no operation is found.
+-- From no tokens no operation is found.
 none_left : (asked left : Level) (tokens : List Token) → length tokens ≤ 0 → infix_at asked left tokens ≡ None
 none_left asked left [] empty = refl
 none_left asked left (first ∷ rest) empty = absurd (omega arith)
 
--- What two functions that agree on what holds make of one reading.
+-- Two functions that agree where a fact is true give the same after one reading.
 same_where : {A B : Type 0} (found : Option A) (f g : A → Option B) (P : A → Type 0) → IfSome found P → ((x : A) → P x → f x ≡ g x)
     → option_and_then f found ≡ option_and_then g found
 same_where None f g P is same = refl

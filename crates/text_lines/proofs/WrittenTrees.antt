@@ -1,4 +1,4 @@
--- What tokens write is what is read of them.
+-- What tokens write is what is read from them.
 use Rattle.std.proofs.Common.{◌≡◌, List, [], ◌∷◌, Option, Some, None, Result, Ok, Err, refl, ap, sym, ◌∙◌, arith, nat_le, inl, inr}
 use Rattle.std.specs.Prelude.{IfSome, ◌⊎◌}
 use Rattle.std.proofs.lemmas.Bool.{and_parts, and_from}
@@ -14,7 +14,7 @@ use Rattle.text_lines.specs.Expressions.{Front, read, whole_tree, read_expressio
 use Rattle.text_lines.proofs.ReadExpressions.{IsFront, read_is}
 use Rattle.text_lines.proofs.RoundTrip.{read_again}
 
--- What the tokens write is read of them.
+-- What the tokens write is read from them.
 pub read_written : (tree : Expr) (tokens : List Token) → Writes tree tokens → read_expression tokens ≡ Some tree
 unfolding read_expression
 read_written tree tokens is =
@@ -40,7 +40,7 @@ written_by tree tokens (Some (read, level, [])) is same =
     }
 written_by tree tokens (Some (read, level, first ∷ rest)) is same = absurd (cc)
 
--- What is read of the tokens is what they write.
+-- What is read from the tokens is what they write.
 pub written_read : (tree : Expr) (tokens : List Token) → read_expression tokens ≡ Some tree → Writes tree tokens
 unfolding read_expression
 written_read tree tokens same = written_by tree tokens (read 64 Whole tokens) (read_is 64 Whole tokens) same
@@ -65,7 +65,7 @@ decided_by tokens None is = inr is
 pub expression_decided : (tokens : List Token) → ((tree : Expr) × Writes tree tokens) ⊎ ((tree : Expr) → Writes tree tokens → ⊥)
 expression_decided tokens = decided_by tokens (read_expression tokens) (expression_is tokens (read_expression tokens) refl)
 
--- Two that they write are both what is read.
+-- Two expressions that they write are both the one that is read.
 pub writes_one : WritesOneTree
 writes_one tokens one other first second =
     let same : ◌≡◌ {A = Option Expr} (Some one) (Some other) = sym (read_written one tokens first) ∙ read_written other tokens second in

@@ -33,7 +33,7 @@ WritesOneTree = (tokens : List Token) (one other : Expr) → Writes one tokens �
 
 -- ---- How it is read
 
--- One reading after another, where each gives something.
+-- One reading after another, if the first one gives something.
 infixl 10 ◌>>=◌
 abbrev pub ◌>>=◌ : {A B : Type 0} → Option A → (A → Option B) → Option B
 found >>= next = option_and_then next found
@@ -65,7 +65,7 @@ GivesRest (Err unread.NoMemory) read = ⊤
 
 -- ---- Single tokens
 
--- Symbols are compared by their texts, which differ.
+-- Symbols are compared by their texts, all of which differ.
 abbrev pub same_symbol : Symbol → Symbol → Bool
 same_symbol one other = bytes_eq (symbol_text one) (symbol_text other)
 
