@@ -27,11 +27,11 @@ declared_names unit =
     ++ map (λ output. output.name) unit.outputs
     ++ map (λ event. event.name) unit.events_out
 
--- How a name is declared at a place.
+-- A declaration with its place in a list.
 abbrev pub declared_at : ℕ → Named → Declared
 declared_at place one = record { place = place; ty = one.ty; is_event = one.is_event }
 
--- The first declaration of a name, where the list starts at a place.
+-- The first declaration of a name, where the list starts at this place.
 abbrev pub declared_from : ℕ → List Named → List ℕ → Option Declared
 declared_from place [] name = None
 declared_from place (first ∷ others) name =
