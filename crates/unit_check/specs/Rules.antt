@@ -56,7 +56,7 @@ breaks_of by.TargetsMayChange = λ system site. assigns_read_only site.scope sit
 breaks_of by.InstanceIsThere = λ system site. lacks_instance system site.line
 breaks_of by.NothingRepeats = repeats_itself
 
--- The rule as the definitions have it.
+-- The rule, as `WellFormed` defines it.
 abbrev pub defined : SystemRule → well_formed.Rule
 defined some = rule (number_of some) (breaks_of some)
 

@@ -40,7 +40,7 @@ pub(crate) enum SystemRule {
     StopIsThere,
     /// Rule 20: `stop` and `longest` are whole numbers of ticks.
     TimesAreTicks,
-    /// Rule 21: there are not too many rows for so many instances.
+    /// Rule 21: there are not too many rows for this many instances.
     RowsFit,
     /// Rule 22: only states and locals are assigned.
     TargetsMayChange,
