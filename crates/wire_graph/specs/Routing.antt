@@ -40,7 +40,7 @@ routed_by routes [] = routes
 routed_by routes ((at, Start word) ∷ inputs) = routed_by routes inputs
 routed_by routes ((at, AtPlace place) ∷ inputs) = routed_by (fed routes place at) inputs
 
--- All inputs, by component.
+-- All inputs of a component, with its number.
 abbrev pub wired_among : ℕ × (Unit × List (Input × InputSource)) → List (InputAt × InputSource)
 wired_among (instance, member) = wired_in (instance, member.1)
 

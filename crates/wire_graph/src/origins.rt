@@ -17,7 +17,7 @@ use indexmap::IndexMap;
 use std::alloc::{AllocError, Global};
 use unit_tree::{Input, System, Unit, Wire};
 
-/// Where the word of an input comes from: its start word, or the output at a place.
+/// The source of the word of an input: its start word, or the output at a place.
 #[derive(Clone, Copy)]
 pub(crate) enum Origin {
     Start(i64),
