@@ -71,7 +71,7 @@ pub record IsLineOfCycle (system : System) (item : ℕ) : Type 0 where
   pub first : IsFirstWithoutOrder system port
   pub declared : line_of_output system port ≡ Some item
 
--- The system was accepted as it is, with the lines that its canonical lines came from and an order of its outputs.
+-- The system was accepted unchanged, with the lines that its canonical lines came from and an order of its outputs.
 pub record IsAcceptedWith (system : System) (lines : List ℕ) (read : AcceptedText) : Type 0 where
   pub checked : read.checked ≡ system
   pub same_lines : read.lines ≡ lines

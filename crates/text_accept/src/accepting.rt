@@ -14,7 +14,7 @@ use unit_text::{ReadText, TextFault, read_system};
 use unit_tree::{Checked, Order, System};
 use wire_graph::{OrderFault, order, output_names};
 
-/// The rule of cycles.
+/// Rule 15: some output is on a cycle, or depends on one that is.
 const CYCLE_RULE: u8 = 15;
 
 /// A text that keeps all rules: its system, the number of the line of the text that each of its canonical lines came
