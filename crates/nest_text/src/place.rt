@@ -8,7 +8,7 @@ use crate::kind::Kind;
 #[derive(Clone, Copy, Debug, PartialEq, Eq)]
 pub enum Place {
     BeforeParts,
-    /// In a group, and in none of its blocks.
+    /// In a group, outside the blocks of its instances.
     InGroup,
     /// In a group, after an `instance` line that has no `end` yet.
     InBlock,
