@@ -77,7 +77,7 @@ impl Walk {
         }
     }
 
-    /// Goes on to a group inside the one where the walk is.
+    /// Visits a group inside the one where the walk is.
     fn go_on(&mut self, place: usize, other: usize) -> Result<(), NoMemory> {
         let number = level(self.numbers.as_slice(), other);
         if number == 0 {
@@ -89,7 +89,7 @@ impl Walk {
         Ok(())
     }
 
-    /// Goes on to the next group that was not entered, if this is one.
+    /// Enters the next group if it was not entered before.
     fn begin(&mut self, count: usize) -> Result<(), NoMemory> {
         let root = self.root;
         self.root = root.saturating_add(1);
@@ -99,7 +99,7 @@ impl Walk {
         Ok(())
     }
 
-    /// Gives a level to the groups that were entered from the one at a place on.
+    /// Completes a level: that of the groups that were entered from the one at a place on.
     fn close(&mut self, place: usize) {
         self.done = self.done.saturating_add(1);
         while let Some(other) = self.open.pop() {
@@ -142,7 +142,7 @@ impl Walk {
     }
 }
 
-/// How many steps the walk takes at most: each group is begun with, or passed over, and left once, and gone on from for each group
+/// The most steps that the walk takes: each group is visited once as the next one, left once, and left for each group
 /// inside it.
 fn steps(inner: &[Vec<usize>]) -> usize {
     let mut steps: usize = 0;
