@@ -65,7 +65,7 @@ optional_follows forms may part (Some one) before free = and_from (may before (p
 abbrev NonePasses : {P : Type 0} → (LineForm → Bool) → (P → List LineForm) → List P → Type 0
 NonePasses test forms all = list_any test (flat_map forms all) ≡ false
 
--- None does of two lists in a row.
+-- The same for two lists in a row.
 none_of_both : {P : Type 0} (test : LineForm → Bool) (forms : P → List LineForm) (xs ys : List P) → NonePasses test forms xs → NonePasses test forms ys
     → NonePasses test forms (xs ++ ys)
 none_of_both test forms xs ys on_xs on_ys =
@@ -74,7 +74,7 @@ none_of_both test forms xs ys on_xs on_ys =
     ∙ ap (λ told. told || list_any test (flat_map forms ys)) on_xs
     ∙ on_ys
 
--- None does of parts of one kind.
+-- The same for parts of one kind.
 none_of_each : {A P : Type 0} (test : LineForm → Bool) (forms : P → List LineForm) (part : A → P) → ((one : A) → list_any test (forms (part one)) ≡ false)
     → (all : List A) → NonePasses test forms (map part all)
 none_of_each test forms part none [] = refl
@@ -83,7 +83,7 @@ none_of_each test forms part none (one ∷ all) =
     ∙ ap (λ told. told || list_any test (flat_map forms (map part all))) (none one)
     ∙ none_of_each test forms part none all
 
--- None does of a part that may be missing.
+-- The same for a part that may be missing.
 none_of_optional : {A P : Type 0} (test : LineForm → Bool) (forms : P → List LineForm) (part : A → P) → ((one : A) → list_any test (forms (part one)) ≡ false)
     → (given : Option A) → NonePasses test forms (optional part given)
 none_of_optional test forms part none None = refl
@@ -114,7 +114,7 @@ record Declares {A : Type 0} (part : A → UnitPart) : Type 0 where
   no_max : (one : A) (value : Expr) → list_any (are_alike (form.Max value)) (unit_part_forms (part one)) ≡ false
   no_step : (one : A) → list_any (are_alike form.Step) (unit_part_forms (part one)) ≡ false
 
--- Declarations of one kind more.
+-- One more declaration of the kind.
 and_declared : {A : Type 0} (part : A → UnitPart) (all : List A) (start : Before) (front : List UnitPart) → Declares part → IsBare start front
     → IsBare start (front ++ map part all)
 and_declared part all start front declares bare = record {
@@ -139,7 +139,7 @@ resolution_is_bare given start first = record {
   no_step = none_of_optional (are_alike form.Step) unit_part_forms parts.Resolution (λ decimals. refl) given;
 }
 
--- No line of the unit so far is like another.
+-- No line of the unit so far has the keyword of another.
 no_rival_in_unit : (key : LineForm) (start : Before) (front : List UnitPart) → start.in_unit ≡ [] → NonePasses opens_unit unit_part_forms front
     → NonePasses (are_alike key) unit_part_forms front → not (list_any (are_alike key) (and_lines start (flat_map unit_part_forms front)).in_unit) ≡ true
 no_rival_in_unit key start front first no_unit lack =
@@ -147,7 +147,7 @@ no_rival_in_unit key start front first no_unit lack =
     (all_in_unit (flat_map unit_part_forms front) start no_unit ∙ ap (λ lines. lines ++ flat_map unit_part_forms front) first)
     ∙ ap not lack
 
--- What the declarations of a unit are followed by.
+-- The parts that follow the declarations of a unit.
 with_max_and_step : (front : List UnitPart) (start : Before) (limit : Option Expr) (lines : Option (List Line)) → start.in_unit ≡ [] → IsBare start front
     → nat_le (step_depth lines) 16 ≡ true → inside_may_stand start ((front ++ optional parts.Max limit) ++ optional parts.Step lines) ≡ true
 with_max_and_step front start limit lines first bare shallow =
@@ -221,7 +221,7 @@ is_common (form.Zero count) = false
 is_common (form.Rows count) = false
 is_common _ = true
 
--- Step lines are common.
+-- Step lines may occur any number of times.
 step_line_is_common : (some : LineForm) → is_step_line some ≡ true → is_common some ≡ true
 step_line_is_common (form.Header version) is = absurd (cc)
 step_line_is_common (form.Stop seconds) is = absurd (cc)
@@ -230,46 +230,46 @@ step_line_is_common (form.Zero count) is = absurd (cc)
 step_line_is_common (form.Rows count) is = absurd (cc)
 step_line_is_common _ is = refl
 
--- Lines of many are common where those of each are.
+-- Lines of several elements may, if those of each may.
 all_common : {A : Type 0} (forms : A → List LineForm) → ((one : A) → list_all is_common (forms one) ≡ true) → (all : List A)
     → list_all is_common (flat_map forms all) ≡ true
 all_common forms common [] = refl
 all_common forms common (one ∷ all) = all_of_two is_common (forms one) (flat_map forms all) (common one) (all_common forms common all)
 
--- Lines of a part of a unit are common.
+-- Lines of a part of a unit may.
 unit_part_is_common : (part : UnitPart) → list_all is_common (unit_part_forms part) ≡ true
 unit_part_is_common (parts.Step lines) =
     all_of_two is_common (flat_map line_forms lines) (form.End ∷ [])
     (all_pass is_step_line is_common step_line_is_common (flat_map line_forms lines) (all_step_lines lines)) refl
 unit_part_is_common _ = refl
 
--- So are those of a unit.
+-- Lines of a unit may.
 unit_is_common : (name : List ℕ) (inside : List UnitPart) → list_all is_common (part_forms (parts.HasUnit name inside)) ≡ true
 unit_is_common name inside = all_of_two is_common (flat_map unit_part_forms inside) (form.End ∷ []) (all_common unit_part_forms unit_part_is_common inside) refl
 
--- Settings are common.
+-- Settings may.
 settings_are_common : (settings : List Setting) → list_all is_common (map form.Setting settings) ≡ true
 settings_are_common [] = refl
 settings_are_common (setting ∷ settings) = settings_are_common settings
 
--- So are the lines of an instance.
+-- The lines of an instance may.
 instance_is_common : (instance : Instance) → list_all is_common (part_forms (parts.HasInstance instance)) ≡ true
 instance_is_common instance = all_of_two is_common (map form.Setting instance.settings) (form.End ∷ []) (settings_are_common instance.settings) refl
 
--- Lines of parts of one kind are common where those of each are.
+-- Lines of parts of one kind may, if those of each may.
 mapped_are_common : {A : Type 0} (part : A → Part) → ((one : A) → list_all is_common (part_forms (part one)) ≡ true) → (all : List A)
     → list_all is_common (flat_map part_forms (map part all)) ≡ true
 mapped_are_common part common [] = refl
 mapped_are_common part common (one ∷ all) =
     all_of_two is_common (part_forms (part one)) (flat_map part_forms (map part all)) (common one) (mapped_are_common part common all)
 
--- Those of two lists in a row are.
+-- Those of two lists in a row may.
 both_are_common : (xs ys : List Part) → list_all is_common (flat_map part_forms xs) ≡ true → list_all is_common (flat_map part_forms ys) ≡ true
     → list_all is_common (flat_map part_forms (xs ++ ys)) ≡ true
 both_are_common xs ys on_xs on_ys = ap (list_all is_common) (flat_map-append part_forms xs ys)
     ∙ all_of_two is_common (flat_map part_forms xs) (flat_map part_forms ys) on_xs on_ys
 
--- Units, instances and wires have common lines alone.
+-- Units, instances and connections have only such lines.
 many_are_common : (units : List Unit) (instances : List Instance) (wires : List Wire)
     → list_all is_common
     (flat_map part_forms ((map (λ unit. parts.HasUnit unit.name (unit_parts unit)) units ++ map parts.HasInstance instances) ++ map parts.Connects wires))
@@ -290,7 +290,7 @@ record IsRare (key : LineForm) : Type 0 where
   header : (version : ℕ) → are_alike key (form.Header version) ≡ false
   other : (some : LineForm) → is_common some ≡ true → are_alike key some ≡ false
 
--- A `stop` is like a `stop` alone.
+-- A line with the keyword of a `stop` is a `stop`.
 rare-Stop : (seconds : Literal) → IsRare (form.Stop seconds)
 rare-Stop seconds = record { rival = λ before. refl; header = λ version. refl; other = other }
   where
@@ -298,7 +298,7 @@ rare-Stop seconds = record { rival = λ before. refl; header = λ version. refl;
     other (form.Stop value) is = absurd (cc)
     other _ is = refl
 
--- A `longest` is like a `longest` alone.
+-- A line with the keyword of a `longest` is a `longest`.
 rare-Longest : (seconds : Literal) → IsRare (form.Longest seconds)
 rare-Longest seconds = record { rival = λ before. refl; header = λ version. refl; other = other }
   where
@@ -306,7 +306,7 @@ rare-Longest seconds = record { rival = λ before. refl; header = λ version. re
     other (form.Longest value) is = absurd (cc)
     other _ is = refl
 
--- A `zero` is like a `zero` alone.
+-- A line with the keyword of a `zero` is a `zero`.
 rare-Zero : (count : ℕ) → IsRare (form.Zero count)
 rare-Zero count = record { rival = λ before. refl; header = λ version. refl; other = other }
   where
@@ -314,7 +314,7 @@ rare-Zero count = record { rival = λ before. refl; header = λ version. refl; o
     other (form.Zero value) is = absurd (cc)
     other _ is = refl
 
--- A `rows` is like a `rows` alone.
+-- A line with the keyword of a `rows` is a `rows`.
 rare-Rows : (count : ℕ) → IsRare (form.Rows count)
 rare-Rows count = record { rival = λ before. refl; header = λ version. refl; other = other }
   where
@@ -322,14 +322,14 @@ rare-Rows count = record { rival = λ before. refl; header = λ version. refl; o
     other (form.Rows value) is = absurd (cc)
     other _ is = refl
 
--- No common line is like it.
+-- No line that may occur any number of times has its keyword.
 common_lack : (key : LineForm) → IsRare key → (lines : List LineForm) → list_all is_common lines ≡ true → list_any (are_alike key) lines ≡ false
 common_lack key rare [] common = refl
 common_lack key rare (some ∷ lines) common =
     let both = and_parts (is_common some) (list_all is_common lines) common in
     ap (λ told. told || list_any (are_alike key) lines) (rare.other some both.0) ∙ common_lack key rare lines both.1
 
--- None of the lines of parts is like it.
+-- None of the lines of parts has its keyword.
 abbrev Lack : LineForm → List Part → Type 0
 Lack key front = NonePasses (are_alike key) part_forms front
 

@@ -36,7 +36,7 @@ placed_of_two before (x ∷ xs) ys =
 abbrev pub depth_in : List Block → ℕ
 depth_in blocks = count_by is_inner blocks
 
--- Blocks that are so deep have room in these.
+-- Blocks nested this deep have room inside these.
 abbrev pub have_room : List Block → ℕ → Bool
 have_room blocks deep = nat_le (depth_in blocks + deep) 16
 
@@ -71,23 +71,23 @@ room_for_more blocks depth depths =
 record IsDeep (some : Line) : Type 0 where
   placed : (before : Before) (blocks : List Block) → IsStep before blocks → are_placed before (line_forms some) ≡ have_room blocks (line_depth some)
 
--- A line with what is known of it.
+-- A line with its depth, and what is known of it.
 abbrev Deep : Type 0
 Deep = (some : Line) × IsDeep some
 
--- The line alone.
+-- The line of a pair.
 abbrev line_in : Deep → Line
 line_in one = one.0
 
--- The lines of such lines.
+-- The lines of such pairs.
 abbrev forms_in : List Deep → List LineForm
 forms_in lines = joined (map line_forms (map line_in lines))
 
--- How deep they are.
+-- The depth of the deepest.
 abbrev depth_of : List Deep → ℕ
 depth_of lines = deepest (map line_depth (map line_in lines))
 
--- Behind such lines the same blocks are open.
+-- After such lines the same blocks are open.
 left_open : (lines : List Deep) (before : Before) (blocks : List Block) → before.open_blocks ≡ blocks → (and_lines before (forms_in lines)).open_blocks ≡ blocks
 left_open lines before blocks is = blocks_behind before (forms_in lines) ∙ ap (λ all. fold behind all (forms_in lines)) is
     ∙ joined_leave (map line_in lines) blocks
@@ -272,7 +272,7 @@ deep-IfElse condition then_lines else_lines =
           ∙ ap (have_room blocks) (sym depth);
     }
 
--- Each line is so where the lines of its blocks are.
+-- This is true of each line, if it is of the lines of its blocks.
 deep_node : (y : Line-F Deep) → IsDeep (roll-Line (map-Line Deep Line line_in y))
 deep_node (Line-F.Assign target value) = subst IsDeep (sym (rolls-Assign target value)) (deep-Assign target value)
 deep_node (Line-F.If condition then_lines None) = subst IsDeep (sym (rolls-If condition (map line_in then_lines) None)) (deep-IfNone condition then_lines)
@@ -281,7 +281,7 @@ deep_node (Line-F.If condition then_lines (Some else_lines)) =
 deep_node (Line-F.Repeat count body) = subst IsDeep (sym (rolls-Repeat count (map line_in body))) (deep-Repeat count body)
 deep_node (Line-F.Accept value) = subst IsDeep (sym (rolls-Accept value)) (deep-Accept value)
 
--- Every line is so.
+-- This is true of every line.
 is_deep : (some : Line) → IsDeep some
 is_deep = ind-Line IsDeep (λ x y is. subst (λ z. IsDeep (roll-Line z)) is (deep_node y))
 

@@ -19,11 +19,11 @@ use Rattle.language_laws.proofs.SourceLaws.{forms_are}
 
 -- ---- A list with an element for each line is sorted as the lines are
 
--- Other entries in place of those of ranked lists.
+-- Ranked lists, with their entries changed.
 abbrev relisted : {A B : Type 0} → (A → B) → List (ℕ × List A) → List (ℕ × List B)
 relisted f lists = map (λ one. (one.0, map f one.1)) lists
 
--- With whether the first list has the rank.
+-- By whether the first list has the rank.
 of_rank_by : {A B : Type 0} (f : A → B) (told : Bool) (rank : ℕ) (list : List A) (ours : List (ℕ × List B)) (others : List (ℕ × List A))
     → flat_map (λ one. one.1) ours ≡ map f (flat_map (λ one. one.1) others)
     → flat_map (λ one. one.1) (cond told ((rank, map f list) ∷ ours) ours) ≡ map f (flat_map (λ one. one.1) (cond told ((rank, list) ∷ others) others))
@@ -113,7 +113,7 @@ forms_in_order version all placed =
     (subst (IsPermutation (map at (in_canonical_order all numbers))) (sym each)
     (IsPermutation-map at (in_canonical_order all numbers) numbers (each_once version all numbers (length-range_with_len 0 (length forms)))))
 
--- What holds of each line of the parts holds of each canonical line.
+-- A property of each line of the parts is one of each canonical line.
 pub each_in_order : (P : LineForm → Type 0) (version : ℕ) (all : List Part) → IsTrue (are_placed no_lines (text_forms version all))
     → AllByRecursion P (text_forms version all) → AllByRecursion P (canonical_forms (system_of version all))
 each_in_order P version all placed holds =

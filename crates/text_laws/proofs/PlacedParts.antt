@@ -55,7 +55,7 @@ parts_may_stand = may_follow part_forms part_may_stand
 
 -- ---- Parts of a unit
 
--- A unit is open, and nothing in it.
+-- A unit is open, and has no lines yet.
 abbrev unit_blocks : List Block
 unit_blocks = InUnit ∷ []
 
@@ -131,7 +131,7 @@ inside_leaves (part ∷ inside) =
 
 -- ---- Parts of a text
 
--- The `end` of a block that lines have left open as it was.
+-- The `end` of a block that is still open after its lines.
 ended_placed : (lines : List LineForm) (before : Before) (block : Block) → before.open_blocks ≡ block ∷ [] → fold behind (block ∷ []) lines ≡ block ∷ []
     → are_placed before (lines ++ (form.End ∷ [])) ≡ are_placed before lines
 ended_placed lines before block is leave =

@@ -47,7 +47,7 @@ pub width_bound : (one other : Bool) (tokens : List Token) → width one tokens 
 width_bound one other [] = omega arith
 width_bound one other (first ∷ others) = omega (arith, gap_bound one (is_worded first))
 
--- Behind a word tokens take the most.
+-- After a word tokens take the most bytes.
 width_most : (one : Bool) (tokens : List Token) → width one tokens ≤ width true tokens
 width_most true tokens = omega arith
 width_most false [] = omega arith
@@ -55,7 +55,7 @@ width_most false (first ∷ others) = omega arith
 
 -- ---- The canonical text
 
--- Two texts with a space between them or not.
+-- Two texts with or without a space between them.
 joined_length : (both : Bool) (text others : List ℕ)
     → length (if both then text ++ (32 ∷ others) else text ++ others) ≡ gap both true + (length text + length others)
 joined_length true text others = omega (arith, length-append text (32 ∷ others))
@@ -107,14 +107,14 @@ text_within text (first ∷ others) =
       width_behind first others,
     )
 
--- The canonical text of tokens is no longer than what they take.
+-- The canonical text of tokens is no longer than their width.
 pub tokens_within : (tokens : List Token) → length (tokens_text tokens) ≤ width false tokens
 tokens_within [] = omega arith
 tokens_within (first ∷ others) = omega (arith, text_within (token_text first) others, width_behind first others)
 
 -- ---- Numbers
 
--- One digit more has ten times the room.
+-- One more digit makes room for ten times as many numbers.
 room_of_more : (room count : ℕ) → room * 10 ^ suc count ≡ 10 * room * 10 ^ count
 room_of_more room count =
     ap (λ power. room * power) (pow-succ' 10 count) ∙ sym (mul_assoc room 10 (10 ^ count)) ∙ ap (λ more. more * 10 ^ count) (mul_comm room 10)
@@ -187,7 +187,7 @@ name_begins : (name rest : List ℕ) → IsName name → begins_with is_word_byt
 name_begins [] rest is = absurd is.0
 name_begins (byte ∷ bytes) rest is = or_left (is_letter byte) (is_digit byte) is.0.0
 
--- What spells a word or a number begins with such a byte.
+-- A text that spells a word or a number begins with such a byte.
 spelling_begins : (first : Token) (text rest : List ℕ) → IsSpelling first text → is_worded first ≡ true → begins_with is_word_byte (text ++ rest) ≡ true
 spelling_begins (token.Keyword keyword) text rest is worded = rw is (word_begins (keyword_text keyword) rest (keyword_is_word keyword))
 spelling_begins (token.Name name) text rest is worded = rw is.0 (name_begins name rest is.1)
@@ -238,11 +238,11 @@ fits_more first others line rest is fits =
           );
     }
 
--- Tokens that a line spells fit it.
+-- Tokens that a line spells fit in it.
 spelled_fits : (tokens : List Token) (line : List ℕ) → Spells tokens line → Fits tokens line
 spelled_fits [] line spelled = record { bare = omega arith; apart = λ apart. omega arith }
 spelled_fits (first ∷ others) line spelled = fits_more first others line spelled.0 spelled.1 (spelled_fits others spelled.0 spelled.2)
 
--- The tokens that a line spells take no more than the line has.
+-- The tokens that a line spells take no more bytes than the line has.
 pub line_is_no_shorter : (tokens : List Token) (line : List ℕ) → Spells tokens line → width false tokens ≤ length line
 line_is_no_shorter tokens line spelled = (spelled_fits tokens line spelled).bare

@@ -37,7 +37,7 @@ can_grow sign.Greater = true
 can_grow sign.Is = true
 can_grow _ = false
 
--- Whether a token begins with `=` or `>`, by which a symbol grows.
+-- Whether a token begins with `=` or `>`, which make a symbol longer.
 abbrev pub is_growth : Token → Bool
 is_growth (token.Symbol sign.Equals) = true
 is_growth (token.Symbol sign.AtLeast) = true
@@ -50,7 +50,7 @@ abbrev pub is_point : Token → Bool
 is_point (token.Symbol sign.Point) = true
 is_point _ = false
 
--- Whether a first token is there and passes the test.
+-- Whether there is a first token and it passes the test.
 abbrev pub starts_with : (Token → Bool) → List Token → Bool
 starts_with test [] = false
 starts_with test (first ∷ others) = test first
@@ -62,7 +62,7 @@ reads_on (token.Number digits decimals) behind = starts_with is_point behind
 reads_on (token.Symbol spelled) behind = starts_with is_growth behind && can_grow spelled
 reads_on _ behind = false
 
--- No token would be read on into the next.
+-- No token is continued by the next.
 abbrev pub are_apart : List Token → Bool
 are_apart [] = true
 are_apart (first ∷ others) = not (reads_on first others) && are_apart others
@@ -83,15 +83,15 @@ record Separates (between : Token) : Type 0 where
   no_point : is_point between ≡ false
   apart : (behind : List Token) → starts_with is_growth behind ≡ false → are_apart behind ≡ true → are_apart (between ∷ behind) ≡ true
 
--- Every keyword does.
+-- Every keyword may.
 keyword_separates : (spelled : Keyword) → Separates (keyword spelled)
 keyword_separates spelled = record { no_point = refl; apart = λ behind other apart. apart }
 
--- Every symbol but the point does.
+-- Every symbol except the point may.
 symbol_separates : (spelled : Symbol) → is_point (symbol spelled) ≡ false → Separates (symbol spelled)
 symbol_separates spelled no_point = record { no_point = no_point; apart = before_other spelled }
 
--- Every operation does.
+-- Every operation may.
 operation_separates : (op : BinOp) → Separates (operation op)
 operation_separates by.Add = symbol_separates sign.Plus refl
 operation_separates by.Sub = symbol_separates sign.Minus refl
@@ -121,7 +121,7 @@ record IsOperand (tokens : List Token) : Type 0 where
 operand_apart : (tokens : List Token) → IsOperand tokens → are_apart tokens ≡ true
 operand_apart tokens operand = ap are_apart (sym (append-nil tokens)) ∙ operand.apart [] refl refl
 
--- No symbol grows by them there.
+-- They make no symbol before them longer there.
 operand_other : (tokens : List Token) → IsOperand tokens → starts_with is_growth tokens ≡ false
 operand_other tokens operand = ap (starts_with is_growth) (sym (append-nil tokens)) ∙ operand.other []
 
@@ -276,12 +276,12 @@ names_apart [] behind apart = apart
 names_apart (name ∷ []) behind apart = apart
 names_apart (name ∷ next ∷ names) behind apart = before_any sign.Comma (names_tokens (next ∷ names) ++ behind) refl (names_apart (next ∷ names) behind apart)
 
--- So do the names of what is needed, with their keyword.
+-- So do the names in the needs, with their keyword.
 needs_apart : (names : List (List ℕ)) (behind : List Token) → are_apart behind ≡ true → are_apart (needs_tokens names ++ behind) ≡ true
 needs_apart [] behind apart = apart
 needs_apart (name ∷ names) behind apart = names_apart (name ∷ names) behind apart
 
--- What is needed begins with no point.
+-- The tokens of needs don't begin with a point.
 needs_no_point : (names : List (List ℕ)) (behind : List Token) → starts_with is_point behind ≡ false
     → starts_with is_point (needs_tokens names ++ behind) ≡ false
 needs_no_point [] behind no_point = no_point
@@ -298,7 +298,7 @@ declared_with declared name ty value operand =
     ap are_apart (append_assoc (declaration declared name ty) equals value)
     ∙ declaration_apart declared name ty (equals ++ value) (given_apart value operand) refl
 
--- So does one with what it needs.
+-- So does a declaration with its needs.
 declared_needing : (declared : Keyword) (name : List ℕ) (ty : Ty) (needs : List (List ℕ)) (value : List Token) → IsOperand value
     → are_apart (declaration declared name ty ++ needs_tokens needs ++ equals ++ value) ≡ true
 declared_needing declared name ty needs value operand =
