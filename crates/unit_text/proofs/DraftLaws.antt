@@ -509,7 +509,7 @@ step_goes version all name inside lines around none (form.Rows count) =
 step_goes version all name inside lines around none (form.Sample port) =
     refused_in_step (at_step version all name inside lines around) (form.Sample port) refl (in_step around).not_top refl
 
--- ---- Wherever it is
+-- ---- In any block
 
 -- While a step is read its unit has no other one, if all lines are allowed.
 step_is_only : (version : ℕ) (all : List Part) (name : List ℕ) (inside : List UnitPart) (inner : Inner)

@@ -34,7 +34,7 @@ use Rattle.unit_text.specs.Nesting.{head_forms, around_forms, open_forms, nested
 
 -- ---- Lines of a step
 
--- A line of a step is one line more of its innermost block.
+-- A line of a step is one more line of its innermost block.
 abbrev IsAdded : Line → Type 0
 IsAdded some =
     (nested : Nested) (name : List ℕ) (unit_parts : List UnitPart) (inner : Inner)
@@ -243,7 +243,7 @@ pub record IsHeld (nested : Nested) (some : LineForm) : Type 0 where
   pub held : holds_form (blocks_of nested.block) some ≡ true
   pub no_header : (version : ℕ) → some ≡ form.Header version → ⊥
 
--- The lines of what is nested then are the same and this one.
+-- What is nested then has the same lines and this one.
 abbrev Adds : Nested → LineForm → Type 0
 Adds nested some = nested_forms (and_form nested some) ≡ nested_forms nested ++ (some ∷ [])
 
@@ -372,7 +372,7 @@ in_step_at version all unit inside inner = opened (holding version all) (InStep 
 abbrev pub blocks_around : List Around → List Block
 blocks_around around = map (λ block. block_of block.head) around ++ step_blocks
 
--- A step is none of the other blocks.
+-- A step is not one of the other blocks.
 pub record IsInStep (open_before : List Block) : Type 0 where
   pub not_top : blocks.at_top open_before ≡ false
   pub not_unit : blocks.in_unit open_before ≡ false

@@ -26,7 +26,7 @@ use Rattle.language_laws.proofs.OpenBlocks.{all_in_text}
 
 -- ---- Tests that no step line passes
 
--- No step line passes the test, `end` included.
+-- No step line passes the test, also no `end`.
 abbrev IsApart : (LineForm → Bool) → Type 0
 IsApart test = (some : LineForm) → is_step_line some ≡ true → test some ≡ false
 
@@ -91,7 +91,7 @@ none_in_all : {A : Type 0} (test : LineForm → Bool) (forms : A → List LineFo
 none_in_all test forms none [] = refl
 none_in_all test forms none (one ∷ all) = none_of_two test (forms one) (flat_map forms all) (none one) (none_in_all test forms none all)
 
--- the lines of a step, with its own and its `end`
+-- the lines of a step, with its first line and its `end`
 none_in_step : (test : LineForm → Bool) → IsApart test → (lines : List Line) → test form.Step ≡ false
     → list_any test (unit_part_forms (parts.Step lines)) ≡ false
 none_in_step test apart lines step =
@@ -354,7 +354,7 @@ no_unit_inside : (part : UnitPart) → list_any opens_unit (unit_part_forms part
 no_unit_inside (parts.Step lines) = none_in_step opens_unit apart_unit lines refl
 no_unit_inside _ = refl
 
--- Behind the line of a unit, and lines that its parts have.
+-- After the line of a unit, and lines that its parts have.
 pub unit_before : (front : List LineForm) (name : List ℕ) (inside : List UnitPart)
     → (and_lines no_lines (front ++ (form.Unit name ∷ flat_map unit_part_forms inside))).in_unit ≡ flat_map unit_part_forms inside
 unit_before front name inside =
