@@ -11,7 +11,7 @@ use Rattle.unit_tree.proofs.FoldLemmas.{fold-If, fold-Repeat}
 use Rattle.unit_print.proofs.NestingLaws.{max_within, one_more}
 use Rattle.list_laws.proofs.Truths.{and_true}
 
--- A greatest depth from some depth on.
+-- The greatest depth, from some depth on.
 deepest_from : (from limit : ℕ) (lines : List Line)
     → nat_le (fold max from (map line_depth lines)) limit ≡ (nat_le from limit && list_all (λ line. nat_le (line_depth line) limit) lines)
 deepest_from from limit [] = grind (arith, nat_tests)

@@ -23,7 +23,7 @@ use Rattle.list_laws.proofs.Lists.{flat_all, mapped_all}
 
 -- ---- Lists
 
--- And where each part is one line.
+-- The same where each part is one line.
 mapped_one : {A B C : Type 0} (test : C → Bool) (forms : B → List C) (part : A → B) (line : A → C) → ((x : A) → forms (part x) ≡ line x ∷ [])
     → (xs : List A) → list_all test (flat_map forms (map part xs)) ≡ list_all (λ x. test (line x)) xs
 mapped_one test forms part line is [] = refl
@@ -122,7 +122,7 @@ behind_name : (name told rest : Bool) → told ≡ rest → (((name && true) && 
 behind_name true told rest is = is
 behind_name false told rest is = refl
 
--- Ten answers in a row as three groups and eight as three.
+-- Ten tests in a row as three groups, and eight tests as three.
 unit_groups : (declared one two three four five six : Bool)
     → ((((((declared && one) && two) && three) && four) && five) && six) ≡ ((declared && (((one && two) && three) && four)) && (five && six))
 unit_groups false one two three four five six = refl
@@ -214,7 +214,7 @@ rows_fit : (version : ℕ) (given : Option ℕ) → parts_fit version (optional 
 rows_fit version None = refl
 rows_fit version (Some count) = refl
 
--- Four tests, of which all but the last hold, or one doesn't.
+-- Four tests: all but the last are true, or one of these is false.
 pub fourth_decides : (one two three four told : Bool) → one ≡ true → two ≡ true → three ≡ true → told ≡ four → told ≡ (one && ((two && three) && four))
 fourth_decides one two three four told first second third is =
     is ∙ sym (ap (λ here. here && ((two && three) && four)) first ∙ ap (λ here. (here && three) && four) second ∙ ap (λ here. here && four) third)

@@ -1,4 +1,4 @@
--- Text that grows from the left is the text that is joined from the right.
+-- A text that grows at its end is the text that is joined from the last piece on.
 use Rattle.std.proofs.Common.{◌≡◌, ℕ, ◌-◌, Bool, true, false, List, [], ◌∷◌, ◌++◌, length, Option, Some, None, refl, sym, ap, ◌∙◌, append_assoc, arith, suc}
 use Rattle.std.proofs.Common.{zero, ◌<◌, ◌^◌, ◌+◌, take, drop, replicate, decimal, if◌then◌else◌}
 use Rattle.std.specs.Prelude.{IsTrue, IsFalse, slice_get, map, ◌&&◌, ◌||◌}
