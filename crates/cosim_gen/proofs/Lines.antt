@@ -57,7 +57,7 @@ heads_are (instance ∷ instances) wires rows = ap (λ rest. instance_head insta
 small_word : (n : ℕ) → n < 1000 → is_word_of Int64 (pos n) ≡ true
 small_word n small = grind (arith, nat_tests)
 
--- A number without decimals is so many ticks of one second.
+-- A number of seconds without decimals is the same number of ticks of one second.
 ticks_are : (n : ℕ) → n ≤ 100000 → seconds_of 0 (number n) ≡ Ok n
 ticks_are n few = grind (arith, nat_tests, not_negative)
 
@@ -228,7 +228,7 @@ module _ (seed instances rows : ℕ) (can : CanGenerate instances rows) where
     wires_hold (first + 1) count (earlier ++ (wire_line first ∷ [])) (omega arith) (omega arith) (behind_wire first earlier some (omega arith) before),
   )
 
-  -- Behind all instances the connections begin.
+  -- After all instances the connections begin.
   wires_begin : (earlier : List LineForm) → BeforeInstance instances earlier → BeforeWire 1 earlier
   wires_begin earlier before = record {
     fed = subst (AllByRecursion (FedBefore 1)) (sym before.unfed) tt;
