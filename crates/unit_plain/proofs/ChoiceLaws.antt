@@ -1,4 +1,4 @@
--- What the plain form makes of an event output's expression by its choices.
+-- The plain form of an event output's expression, by its choices.
 use Rattle.std.proofs.Common.{◌≡◌, refl, ap, sym, subst, ◌∙◌}
 use Rattle.language_laws.proofs.PlainLemmas.{choices-Number, choices-Truth, choices-Var, choices-Time, choices-Step, choices-Unary, choices-Binary}
 use Rattle.language_laws.proofs.PlainLemmas.{choices-Clamp, choices-Choose, choices-Present, plain-Choose}

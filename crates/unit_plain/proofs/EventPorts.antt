@@ -51,7 +51,8 @@ among_ports (output ∷ outputs) events name =
     output_or_later (bytes_eq output.name name) (list_any (λ output. bytes_eq output.name name) outputs) (list_any (λ event. bytes_eq event.name name) events)
     (plain_port output) (port_named (map plain_port outputs ++ map event_port_of events) name) refl (among_ports outputs events name)
 
--- The first output of a name is one of events where no plain one has it, and one of events does.
+-- The first output with a name is an event output where no plain output has the name and an event
+-- output does.
 pub event_port : (unit : Unit) (name : List ℕ) (outputs : List Output) (events : List EventOut) (here among : Bool) → outputs ≡ unit.outputs
     → events ≡ unit.events_out → here ≡ list_any (λ output. bytes_eq output.name name) outputs → among ≡ list_any (λ event. bytes_eq event.name name) events
     → (not here && among) ≡ is_of_events (port_named (output_ports unit) name)
