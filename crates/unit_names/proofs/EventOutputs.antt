@@ -1,4 +1,5 @@
--- An event output by the choices of its expression: the kind of its word, and how deep and dear its two plain outputs are.
+-- An event output, by the choices of its expression: the kind of its word, and the depth and cost of its two plain
+-- outputs.
 use Rattle.std.proofs.Common.{◌≡◌, ℕ, zero, suc, ◌+◌, pos, Bool, false, ◌&&◌, Some, max, min, nat_le, refl, ap, sym, subst, ◌∙◌, arith}
 use Rattle.fixed_words.specs.Types.{kind_of}
 use Rattle.fixed_words.specs.declared.types.Ty.{Ty}
@@ -58,7 +59,7 @@ one_choice = ind-Expr IsOther (λ x y is. subst (λ z. IsOther (roll-Expr z)) is
 
 -- ---- The word of an event output
 
--- The expression, and a choice that is left as it is.
+-- The expression, and a choice that is left unchanged.
 abbrev same : Expr → Expr
 same value = value
 

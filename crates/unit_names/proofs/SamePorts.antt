@@ -91,7 +91,7 @@ unit_by_name : (system : System) (one other : PortName) → bytes_eq one.instanc
 unit_by_name system one other is =
     ap (λ name. option_and_then (unit_of_instance system) (instance_named system name)) (same_bytes one.instance other.instance is)
 
--- Two ports that resolve are the same exactly where the first places of their instances and their own places are equal.
+-- Two ports that are found are equal exactly where the first places of their instances and their own places are.
 resolved : (ports : Unit → List Port) (system : System) (one other : PortName) (i j : ℕ) (a b : Declared)
     → first_place (instance_names system) one.instance ≡ Some i → first_place (instance_names system) other.instance ≡ Some j
     → option_and_then (λ unit. port_among (ports unit) one.port) (unit_at system one) ≡ Some a

@@ -58,7 +58,7 @@ stands_at place (first ∷ others) q = step (bytes_eq q first.name) (stands_at (
     step true rest = refl
     step false rest = rest
 
--- It is found with the type of the first thing that has it.
+-- It is found with the type of the first declaration that has it.
 typed_from : {D : Type 0} (name : D → List ℕ) (ty : D → Ty) (event : Bool) (place : ℕ) (all : List D) (q : List ℕ)
     → option_map type_of (declared_from place (map (λ d. record { name = name d; ty = ty d; is_event = event }) all) q)
     ≡ option_map ty (find (λ d. bytes_eq (name d) q) all)
@@ -97,7 +97,7 @@ types_from place (first ∷ others) q =
 types_are : (unit : Unit) → map variable_of (types_named unit) ≡ declared_in unit
 types_are unit = simp (map-append, map-map, append_assoc)
 
--- The first declaration by the order in which types are looked for has the name's type.
+-- The first declaration, in the order in which types are searched, has the name's type.
 pub type_found : (unit : Unit) (q : List ℕ) → option_map type_of (declared_among (types_named unit) q) ≡ type_in unit q
 type_found unit q = types_from 0 (types_named unit) q ∙ ap (λ variables. type_among variables q) (types_are unit)
 
