@@ -1,4 +1,4 @@
--- Walks along lines whose places are counted from a first number.
+-- Walks over lines whose places are counted from a first number.
 use Rattle.std.proofs.Common.{◌≡◌, ℕ, ◌+◌, ◌-◌, List, [], ◌∷◌, ◌++◌, map, length, Ok, Some, None, append_assoc, refl, ap, sym, ◌∙◌, subst, arith}
 use Rattle.std.specs.List.{flat_map}
 use Rattle.std.proofs.lemmas.List.{append-nil, length-append}

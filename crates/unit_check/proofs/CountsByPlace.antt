@@ -48,7 +48,8 @@ module _ (system : System) (scope : Scope) where
       ap (count_by (are_alike probe)) (flat_map-append (plain_forms system scope) front behind)
       ∙ sum_by-append _ (flat_map (plain_forms system scope) front) (flat_map (plain_forms system scope) behind)
 
-  -- Lines with how many they count for, and how many names they declare.
+  -- Lines, with the number of plain lines that they count for and the number of names that they
+  -- declare.
   abbrev Measured : LineForm → List LineForm → ℕ → ℕ → Type 0
   Measured probe lines count names = (alike probe lines ≡ count) × (bridge.told name_declared lines ≡ names)
 
@@ -109,7 +110,7 @@ module _ (system : System) where
   OfUnit (UnitScope unit) claim = claim
   OfUnit _ claim = ⊤
 
-  -- What lines of units have to keep.
+  -- What is known of lines of units.
   abbrev pub InUnit : Site → Type 0
   InUnit site = OfUnit site.scope (Agrees site)
 
@@ -372,7 +373,7 @@ module _ (system : System) where
   sample_line port (form.Connect wire) = wire_weight (form.Sample port) wire (is_event_output system wire.from) (λ other. refl)
   sample_line port _ = refl
 
-  -- Connections, by how many they are in the plain form.
+  -- Connections, with how many they are in the plain form.
   abbrev wire_count : List LineForm → ℕ
   wire_count lines = length (flat_map (plain_wires system) (filter_map wire_on lines))
 

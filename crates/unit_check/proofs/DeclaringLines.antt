@@ -1,4 +1,4 @@
--- The walk with the question which line declares an output finds its line.
+-- The walk that searches the line which declares an output finds it.
 use Rattle.std.proofs.Common.{◌≡◌, ℕ, suc, ◌+◌, Bool, true, false, List, [], ◌∷◌, Option, Some, None, Result, Ok, Err, refl, ap, sym, ◌∙◌, subst, add-one}
 use Rattle.std.specs.Prelude.{nat_eq, if◌then◌else◌, IfOk, ⊤}
 use Rattle.std.specs.List.{find, enumerate_from}

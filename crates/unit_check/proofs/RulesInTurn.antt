@@ -1,4 +1,4 @@
--- Rules one after the other.
+-- Rules in turn.
 use Rattle.std.proofs.Common.{◌≡◌, List, [], ◌∷◌, map, Some, None, refl, ap, sym, subst, ◌∙◌}
 use Rattle.unit_check.specs.Rules.{Tells, TellsRule, IsFaultOf, breaks_of, defined, judged, number_of}
 use Rattle.unit_check.specs.declared.checking.CheckFault.{CheckFault}

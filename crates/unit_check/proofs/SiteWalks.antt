@@ -1,4 +1,4 @@
--- Walks along sites.
+-- Walks over sites.
 use Rattle.std.proofs.Common.{◌≡◌, ℕ, suc, ◌+◌, Bool, true, false, List, [], ◌∷◌, ◌++◌, map, length, Result, Ok, Err, append_assoc, refl, ap, sym, ◌∙◌, arith}
 use Rattle.std.specs.Prelude.{if◌then◌else◌, nat_eq}
 use Rattle.std.proofs.lemmas.List.{append-nil, map-append}
@@ -57,7 +57,7 @@ pub onward_none : (met : Result ℕ Stop) → onward met (λ n. Ok n) ≡ met
 onward_none (Ok n) = refl
 onward_none (Err why) = refl
 
--- A walk along sites, up to the first one that passes the test.
+-- A walk over sites, up to the first one that passes the test.
 abbrev pub walk : (Site → Bool) → ℕ → List Site → Result ℕ Stop
 walk test number [] = Ok number
 walk test number (site ∷ sites) = onward (past (test site) number) (λ n. walk test n sites)

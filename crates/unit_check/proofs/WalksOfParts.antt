@@ -1,4 +1,4 @@
--- The walk by the parts of a system is the walk along its canonical lines.
+-- The walk over the parts of a system is the walk over its canonical lines.
 use Rattle.std.proofs.Common.{◌≡◌, ℕ, suc, ◌+◌, List, [], ◌∷◌, ◌++◌, map, length, Option, Some, None, refl, ap, sym, ◌∙◌, arith}
 use Rattle.std.specs.List.{flat_map, filter_map, cons_option}
 use Rattle.std.proofs.lemmas.List.{append-nil, length-append, map-append}
@@ -53,7 +53,7 @@ untold_behind : {A : Type 0} (asked : LineForm → Option A) (earlier : List Lin
 untold_behind asked earlier headed one other = let all = told_adds asked earlier (heads headed) in omega arith
 
 module _ (test : Test) where
-  -- A walk goes along these lines and their blocks.
+  -- A walk goes over these lines and their blocks.
   abbrev Along : Scope → List LineForm → Walk → List Headed → Type 0
   Along scope earlier walked headed = (number : ℕ) → walked number ≡ walk (test_at test) number (sites scope earlier headed)
 
