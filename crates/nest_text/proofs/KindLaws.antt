@@ -20,7 +20,7 @@ use Rattle.nest_text.specs.Reading.{connects, ends, group_kind, in_kind, keyword
 use Rattle.nest_text.specs.declared.kind.Kind.{Kind}
 use Rattle.nest_text.specs.declared.kind.Kind.TheVariants as kinds
 
--- A line is of the kind, unless that is of another line.
+-- A line has the kind, unless the kind is `Other`.
 abbrev Told : List ℕ → Kind → Type 0
 Told line kind = HasKind line kind ⊎ (kind ≡ kinds.Other)
 

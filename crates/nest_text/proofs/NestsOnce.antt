@@ -151,7 +151,7 @@ one_nest text one other first second =
     let main_lines = first.main_line ∙ ap (λ (line : SourceLine). line.number) same.mains ∙ sym second.main_line in
     λ i. record { main = mains i; groups = groups i; lines = lines i; main_line = main_lines i }
 
--- ---- One line that strays
+-- ---- One line that is not allowed
 
 placed_at : (place : Place) (before : List SourceLine) (line : SourceLine) (later : List SourceLine) → are_placed place (before ++ (line ∷ later)) ≡ true
     → may_stand (place_behind place before) line.kind ≡ true

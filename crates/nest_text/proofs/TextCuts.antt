@@ -1,4 +1,4 @@
--- A text that is cut at one of its lines.
+-- A text that is split at one of its lines.
 use Rattle.std.proofs.Common.{◌≡◌, ℕ, ◌+◌, ◌-◌, ◌≤◌, ◌<◌, Bool, true, false, List, [], ◌∷◌, ◌++◌, map, length, take, inl, inr, Some, None}
 use Rattle.std.proofs.Common.{refl, sym, ap, ap₂, subst, ◌∙◌, arith, append_assoc, append-nil, length-append}
 use Rattle.std.specs.Prelude.{◌⊎◌, ◌==◌, not, ◌&&◌, ◌||◌, if◌then◌else◌, IsTrue}
@@ -54,7 +54,7 @@ whole_lines first [] (line ∷ lines) are whole = absurd are
 whole_lines first (one ∷ all) [] are whole = absurd are
 whole_lines first (one ∷ all) (line ∷ lines) are whole = (subst IsWhole (sym are.0.bytes) whole.0, whole_lines (first + 1) all lines are.1 whole.1)
 
--- no line of a text has an end in it
+-- no line of a text has a line end in it
 pub are_whole : (first : ℕ) (text : List ℕ) (lines : List SourceLine) → AreLines first text lines → AllByRecursion (λ line. IsWhole line.bytes) lines
 are_whole first text lines are = whole_lines first (lines_of text) lines are (all_whole text)
 
