@@ -1,4 +1,4 @@
--- One level of what is followed, and of what is reached.
+-- One level of `follow`, and one level of `reach`.
 use Rattle.std.proofs.Common.{◌≡◌, ℕ, zero, suc, ◌-◌, Bool, true, false, List, [], refl, ap, ◌∙◌, None, Some, arith, ◌<◌, ◌+◌, ◌++◌, ◌∷◌, length, map, drop, get_or, sym, append_assoc, bytes_eq}
 use Rattle.std.specs.Prelude.{◌&&◌, if◌then◌else◌, slice_get}
 use Rattle.std.specs.Cmp.Lexicographic.{nat_list_eq_equiv}

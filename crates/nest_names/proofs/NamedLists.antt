@@ -117,7 +117,7 @@ any_at test items (place ∷ places) = by (slice_get items place) (any_at test i
     by None rest = rest
     by (Some item) rest = ap (λ more. test item || more) rest
 
--- What passes a test has a name that what doesn't have it can't pass.
+-- A test gives the same on the items with a name, if an item without the name can't pass it.
 pub any_named : {A : Type 0} (test named : A → Bool) → ((item : A) → named item ≡ false → test item ≡ false) → (items : List A)
     → list_any test (filter named items) ≡ list_any test items
 any_named test named apart [] = refl
