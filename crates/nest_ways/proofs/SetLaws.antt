@@ -101,7 +101,7 @@ number_only old new place bit number start is has one held = by (has held.place 
         inl (told ∙ ap (λ n. (old.start + n) * 64 + held.bit) here.0 ∙ ap (λ n. (old.start + place) * 64 + n) here.1 ∙ sym is)
     by (inr there) = inr (record { place = held.place; bit = held.bit; has = there; is = told })
 
--- Words without those before, of which none has a bit.
+-- Words without the first ones, none of which has a bit.
 pub trimmed_same : (words : List SetWord) (one made : NumberSet) (empty : ℕ) → one.words.items ≡ words → made.start ≡ one.start + empty
     → made.words.items ≡ drop empty words → ((place bit : ℕ) → HasAt words place bit → empty ≤ place) → HasSame made one
 trimmed_same words one made empty of start left least number = (back, there)
@@ -135,7 +135,7 @@ trimmed_same words one made empty of start left least number = (back, there)
           is = omega (arith, is, start, low);
         }
 
--- Only numbers of a word of another set come.
+-- Only numbers of a word of another set are added.
 pub word_comes : (old new other : NumberSet) (word : SetWord) (ahead place there : ℕ) → new.start ≡ old.start → other.start ≡ old.start + ahead
     → there ≡ ahead + place → slice_get other.words.items place ≡ Some word
     → ((at bit : ℕ) → HasAt new.words.items at bit → ((at ≡ there) × IsInWord word bit) ⊎ HasAt old.words.items at bit)

@@ -57,7 +57,7 @@ upto_stop put all more puts = (
 pub upto_none : (old more : List Spot) → PutsUpTo false old (old ++ more)
 upto_none old more = (more, λ kept. refl)
 
--- ---- What is done
+-- ---- Finished inputs
 
 done_by : (nest : Nest) (scopes : List Scope) (base offset : ℕ) (known : Known) (old new : List End) (more : List Spot)
     → SameKept (inputs_at nest scopes base new) (inputs_at nest scopes base old ++ more) → IsDone nest scopes base old offset known
@@ -225,7 +225,7 @@ walks_stop nest scopes group_scopes kept_sets all base offset known old new ones
   done = λ told. let never : false ≡ true = told in absurd (cc);
 }
 
--- ---- Inputs that are done
+-- ---- Inputs that are finished
 
 pub walks_done : (nest : Nest) (scopes : List Scope) (group_scopes : GroupScopes) (kept_sets : KeptSets) (all : List Known) (base offset : ℕ) (known : Known) (walk : Walk)
     → AreDone nest scopes group_scopes kept_sets all base walk → IsDone nest scopes base walk.ends offset known
@@ -251,7 +251,7 @@ same_offset : (group_scopes : GroupScopes) (group number base one other : ℕ) �
 same_offset group_scopes group number base one other here there =
     let same : base + one ≡ base + other = same_Some (base + one) (base + other) (sym here ∙ there) in omega (arith, same)
 
--- One more input is done, in one scope.
+-- One more input is finished, in one scope.
 pub done_with : (nest : Nest) (scopes : List Scope) (group_scopes : GroupScopes) (kept_sets : KeptSets) (all : List Known) (base number : ℕ) (old new : Walk) (inlet : Inlet)
     → AreDone nest scopes group_scopes kept_sets all base old
     → ((known : Known) → slice_get all inlet.input ≡ Some known → IsDone nest scopes base old.ends inlet.scope known)
@@ -279,14 +279,14 @@ done_with nest scopes group_scopes kept_sets all base number old new inlet are i
 
 -- ---- What is added by numbers
 
--- What an element gives is among what all give.
+-- What one element gives is among what all give.
 in_flat : (f : End → List Spot) (ends : List End) (end : End) (one : Spot) → IsAmong end ends → IsIn one (f end) → IsIn one (flat_map f ends)
 in_flat f [] end one among is = let never = among.1 in absurd (cc)
 in_flat f (first ∷ ends) end one (zero, at) is =
     in_front one (f first) (flat_map f ends) (subst (λ each. IsIn one (f each)) (sym (same_Some first end at)) is)
 in_flat f (first ∷ ends) end one (suc place, at) is = in_behind one (f first) (flat_map f ends) (in_flat f ends end one (place, at) is)
 
--- What all give is given by one of them.
+-- An element that all give is given by one of them.
 flat_from : (f : End → List Spot) (ends : List End) (one : Spot) → IsIn one (flat_map f ends) → (end : End) × IsAmong end ends × IsIn one (f end)
 flat_from f [] one is = let never : false ≡ true = is in absurd (cc)
 flat_from f (first ∷ ends) one is = by (flat_from f ends one) (in_either one (f first) (flat_map f ends) is)
@@ -343,7 +343,7 @@ put_whole nest scopes group_scopes kept_sets all base offset known kept set walk
     let number = has from.0 from.1 in
     are.ends offset number.0 from.0 one (put number.0 number.1) number.2 from.2
 
--- The walk after that is the same, but for what is done.
+-- The walk after that is the same, except for its records.
 pub walks_same : (nest : Nest) (scopes : List Scope) (group_scopes : GroupScopes) (kept_sets : KeptSets) (all : List Known) (base offset : ℕ) (known : Known) (old now new : Walk) (binds : List Bind)
     → WalksOn nest scopes group_scopes kept_sets all base offset known old now true binds → new.ends ≡ now.ends → AreDone nest scopes group_scopes kept_sets all base new
     → WalksOn nest scopes group_scopes kept_sets all base offset known old new true binds
@@ -354,7 +354,7 @@ walks_same nest scopes group_scopes kept_sets all base offset known old now new 
   done = λ told. done;
 }
 
--- What holds of the input at the place holds of each that is found there.
+-- A property of the input at the place is one of each input that is found there.
 pub whole_of : (nest : Nest) (scopes : List Scope) (group_scopes : GroupScopes) (kept_sets : KeptSets) (all : List Known) (base : ℕ) (inlet : Inlet) (known : Known) (old new : Walk) (whole : Bool)
     → slice_get all inlet.input ≡ Some known
     → WalksOn nest scopes group_scopes kept_sets all base inlet.scope known old new whole (lines_of nest known.group known.port.now)

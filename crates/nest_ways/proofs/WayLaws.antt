@@ -1,4 +1,4 @@
--- What is known of inputs of groups, line by line.
+-- Known inputs of groups, line by line.
 use Rattle.std.proofs.Common.{◌≡◌, ◌≤◌, ◌<◌, ℕ, zero, suc, ◌+◌, false, List, [], ◌∷◌, ◌++◌, map, length, take, drop, get_or, inl, inr, refl, sym, ap}
 use Rattle.std.proofs.Common.{◌∙◌, subst, append_assoc, append-nil, take-append-drop, arith, Option, Some, None}
 use Rattle.std.specs.Prelude.{slice_get}
@@ -279,7 +279,7 @@ puts_inside nest scopes all firsts group height step bind kept old new alike lea
     (same_both (f old) (f old) there all_of (λ kept. refl)
     (same_then there ends all_of knows (same_of ends all_of (sym inner.same)))))
 
--- ---- More that is known
+-- ---- More known inputs
 
 step_more : (nest : Nest) (scopes : List Scope) (all behind : List Known) (group low high : ℕ) → low ≤ high → (step : Step) (bind : Bind)
     → IsStep nest scopes all group low step bind → IsStep nest scopes (all ++ behind) group high step bind
@@ -344,7 +344,7 @@ line_next (bind ∷ binds) (suc place) =
 pub lines_split : (binds : List Bind) (place : ℕ) → binds ≡ (take place binds ++ option_to_list (slice_get binds place)) ++ drop (place + 1) binds
 lines_split binds place = sym (take-append-drop (place + 1) binds) ∙ ap (λ front. front ++ drop (place + 1) binds) (line_next binds place)
 
--- There are as many lines as steps.
+-- There is one line for each step.
 pub lines_end : (nest : Nest) (scopes : List Scope) (all : List Known) (group height : ℕ) (steps : List Step) (binds : List Bind) (place : ℕ)
     → AreSteps nest scopes all group height steps binds → length steps ≤ place → take place binds ≡ binds
 lines_end nest scopes all group height [] [] zero are long = refl
