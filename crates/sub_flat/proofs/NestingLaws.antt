@@ -166,7 +166,7 @@ level_sure lists levels place own inner told falling is level judged never =
     (sym (ap (λ most. list_any (λ other. level_at levels other == most) inner) level ∙ ap (list_any (λ other. level_at levels other == level_at levels place)) is)
     ∙ sym judged ∙ never)
 
--- ---- Groups in doubt
+-- ---- Doubtful groups
 
 pub sure_begin : (lists : List (List ℕ)) → AreSure lists []
 sure_begin lists place sure back = absurd (cc)

@@ -142,8 +142,8 @@ impl Walk {
     }
 }
 
-/// The most steps that the walk takes: each group is visited once as the next one, left once, and left for each group
-/// inside it.
+/// The most steps that the walk takes: for each group one that begins with it or passes over it, one that leaves it,
+/// and one for each group inside it.
 fn steps(inner: &[Vec<usize>]) -> usize {
     let mut steps: usize = 0;
     for others in inner {
