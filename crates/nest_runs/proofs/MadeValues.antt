@@ -1,4 +1,4 @@
--- What the ports of a nest have by the signals of its flat system's outputs.
+-- The values at the ports of a nest, from the signals of its flat system's outputs.
 use Rattle.std.proofs.Common.{◌≡◌, ℕ, zero, suc, ◌+◌, ◌≤◌, Bool, true, false, List, [], ◌∷◌, Option, Some, inl, inr, refl, sym, ap, subst, ◌∙◌}
 use Rattle.std.proofs.Common.{arith, cond, find}
 use Rattle.std.specs.Prelude.{if◌then◌else◌, is_some}
@@ -44,7 +44,7 @@ ports_same : (one : NestPort) → same_nest_port one one ≡ true
 ports_same (OfComponent one) = same_port_of one one refl
 ports_same (OfGroup one) = spots_same one
 
--- ---- The ports on the ways of an input
+-- ---- The ports on the paths of an input
 
 module _ (nest : Nest) where
   abbrev ways : ℕ → Spot → List Spot
@@ -155,7 +155,7 @@ module _ (nest : Nest) (sound : IsSound nest) (signals : Signals) where
       (contained (wires_of nest line.scope.group) line.wire line.stands) in
       found_by to one 0 one.to has refl (sym line.to_is) ∙ ap Some (sym (outs_of_port one.from) ∙ sym (ap made_outs line.from_is))
 
-  -- The connection that a port has its value by.
+  -- The connection that gives a port its value.
   record By (port : NestPort) (value : Option Signal) : Type 0 where
     one : Connection
     has : Has (all nest sound) one

@@ -134,7 +134,7 @@ module _ (system : System) (differ : PortsDiffer system) where
   outputs_apart : Distinct (outputs_of system)
   outputs_apart = all_apart system.instances differ.instances
 
--- ---- As many signals as outputs
+-- ---- One signal for each output
 
 module _ (system : System) (signals : Signals) where
   abbrev made : Instance → Option Unit → Option EventMember
@@ -187,7 +187,7 @@ module _ (system : System) (signals : Signals) where
           ∙ sym (length-map (output_ports unit) (λ (port : Port). port_of instance port.name))) later
           ∙ sym (length-append (ports_in instance (Some unit)) (all_ports instances))
 
--- ---- As many states as members
+-- ---- One state for each member
 
 zip_long : {A B : Type 0} (xs : List A) (ys : List B) → length xs ≡ length ys → length (zip xs ys) ≡ length xs
 zip_long [] ys same = refl

@@ -176,7 +176,7 @@ module _ (nest : Nest) where
       → IsScopeAt nest (suc depth) next.scope
   step_deeper binds depth spot next is step = (spot.scope, is, step_inside binds spot next step)
 
-  -- ---- Ways of inputs
+  -- ---- Paths of inputs
 
   -- An input reaches another by this many `in` lines.
   abbrev pub Way : ℕ → Spot → Spot → Type 0
@@ -305,7 +305,7 @@ module _ (nest : Nest) where
   pub follow_none : (depth : ℕ) (spot : Spot) → step_down nest spot ≡ None → follow nest (suc depth) spot ≡ spot
   follow_none depth spot is = ap (λ found. unwrap_or (option_map (follow nest depth) found) spot) is
 
-  -- Where a component's is reached, one level more changes nothing.
+  -- Once a component's output is reached, one more level changes nothing.
   pub follow_stable : (depth : ℕ) (spot : Spot) → is_component nest (follow nest depth spot) ≡ true
       → follow nest (suc depth) spot ≡ follow nest depth spot
   follow_stable zero spot is = follow_stays 1 spot is
@@ -335,7 +335,7 @@ module _ (nest : Nest) (sound : IsSound nest) where
       let led = led_by (λ (instance : Instance). group_place nest instance.unit) (instance_among (instances_of nest group) name) place at in
       group_at nest led.one.unit place led.is
 
-  -- The inner port of a line is there.
+  -- The inner port of a line exists.
   pub next_in_there : (spot next : Spot) → Step nest (λ group. group.ins) spot next → InThere nest sound next.scope.group next.port
   next_in_there spot next step =
       let found = placed_group spot.scope.group spot.port.instance step.place step.at in
@@ -437,7 +437,7 @@ module _ (nest : Nest) (sound : IsSound nest) where
       by later true told there = all_pass (is_component nest) spots to told there
       by later false told there = later (distinct [] expanded) each there
 
-  -- An output of a group that is there is one of an inner port.
+  -- An output of a group that exists comes from an inner port.
   steps_down : (spot : Spot) → OutThere nest sound spot.scope.group spot.port → is_component nest spot ≡ false
       → (next : Spot) × (step_down nest spot ≡ Some next)
   steps_down spot there grouped =
@@ -448,7 +448,7 @@ module _ (nest : Nest) (sound : IsSound nest) where
       let found = finds named lines line.one line.has line.passes in
       (spot_in (inside spot.scope spot.port.instance place.0) found.one, step_some nest spot place.0 found.one place.1 found.is)
 
-  -- Followed as far as there are levels, an output is a component's.
+  -- After all levels, an output is a component's.
   pub followed_leaf : (depth at : ℕ) (spot : Spot) → IsScopeAt nest at spot.scope → OutThere nest sound spot.scope.group spot.port
       → levels ≤ at + depth
       → is_component nest (follow nest depth spot) ≡ true
