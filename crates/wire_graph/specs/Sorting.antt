@@ -23,7 +23,8 @@ pub record IsSorting (routes : Routes) (places : List ℕ) (placed : List Bool) 
   pub among : (place : ℕ) → IsAmong places place → slice_index_or placed place false ≡ true
   pub left : length places + left_of placed ≡ length routes.outputs
 
--- The new places are the old ones, perhaps with others after them.
+-- Places to which others may have been added: all are still there, and if there are no more of them,
+-- nothing has changed.
 pub record Grows (old new : List ℕ) : Type 0 where
   pub holds : (place : ℕ) → IsAmong old place → IsAmong new place
   pub longer : length old ≤ length new
