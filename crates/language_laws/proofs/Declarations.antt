@@ -300,7 +300,7 @@ module _ (system : System) (unit : Unit) (like : LineForm) (limit : ℕ) where
   abbrev becomes : LineForm → List LineForm
   becomes line = plain_forms system (UnitScope unit) line
 
-  -- What a line becomes does not pass the limit, or does not count.
+  -- What a line becomes does not exceed the limit, or does not count.
   abbrev Counts : Declared → Type 0
   Counts one =
       ((earlier : List LineForm)

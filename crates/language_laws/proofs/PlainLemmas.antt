@@ -23,7 +23,7 @@ use Rattle.unit_tree.specs.declared.line.Line.TheViews.{roll-Line}
 use Rattle.unit_tree.proofs.FoldLemmas.{fold-Number, fold-Truth, fold-Var, fold-Time, fold-Step, fold-Unary, fold-Binary, fold-Clamp, fold-Choose, fold-Absent}
 use Rattle.unit_tree.proofs.FoldLemmas.{fold-Present, fold-Assign, fold-If, fold-Repeat, fold-Accept}
 
--- ---- Nodes of their own
+-- ---- Node by node
 
 pub plain-Number : (number : ℤ) (decimals : ℕ) → plain_expression (expr.Number number decimals) ≡ expr.Number number decimals
 plain-Number number decimals = fold-Number Expr node_plain number decimals
