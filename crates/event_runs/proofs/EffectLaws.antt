@@ -187,7 +187,7 @@ module _ (occurring : Occurring) (events : List (List ℕ)) (count : ℕ) where
       by_value (Ok v) = alike v both is
       by_value (Err fault) = refl
 
-  -- Effects of lines are equal if those of each line are.
+  -- Effects agree if others do that give the same in each environment.
   pub alike_of : (plain plain' source source' : Effect) → ((env : Environment) → plain env ≡ plain' env) → ((env : Environment) → source env ≡ source' env)
       → EffectsAlike plain' source' → EffectsAlike plain source
   alike_of plain plain' source source' on_plain on_source alike both is =

@@ -29,7 +29,7 @@ use Rattle.event_runs.specs.Laws.{Speaks, Shows, AreTwo, zero_value}
 use Rattle.event_runs.proofs.ValueLaws.{Given, in-Number, in-Truth, in-Var, in-Time, in-Step, in-Unary, in-Binary, in-Clamp, in-Choose, in-Absent, in-Present}
 use Rattle.event_runs.proofs.ValueLaws.{same-two, same-three, same-choose, said-Choose, same}
 
--- ---- The value of an expression is that of its event
+-- ---- The plain value, of the two results of an expression
 
 module _ (occurring : Occurring) where
   abbrev pub told_in : Expr → Telling

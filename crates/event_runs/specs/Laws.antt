@@ -93,7 +93,8 @@ pub record FormSpeaks (events : List (List ℕ)) (line : LineForm) : Type 0 wher
 abbrev pub LineSpeaks : List (List ℕ) → Line → Type 0
 LineSpeaks events some = AllByRecursion (FormSpeaks events) (line_forms some)
 
--- The content of a unit: its variables have words as names, and its expressions use them and its event inputs.
+-- The content of a unit: the names of its variables and in its expressions are words, and each name in `present` is one
+-- of its event inputs.
 pub record IsSaid (unit : Unit) : Type 0 where
   pub variables : AllByRecursion (λ variable. IsWord variable.name) (all_variables_of unit)
   pub outputs : AllByRecursion (λ output. Speaks (event_input_names unit) output.value) unit.outputs
