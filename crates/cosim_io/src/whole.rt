@@ -58,8 +58,7 @@ pub fn read_all<S: Source>(alloc: Global, source: &mut S, limit: usize) -> Resul
     ensures longer { IsLongerThan (S.left source.old) limit → IsErr result }
     ensures taken { ConsumesAtMost (S.left source.old) (S.left source.new) (limit + 1) }
 
-    // `Fault` has a fault of the source as its cause, each fault gives `Fault`, and no byte after the limit was taken
-    // before one.
+    // `Fault` is returned exactly for a fault of the source, and no byte after the limit was taken before one.
     ensures fault { IsErrOf result ReadEnd.Fault → Rose (S.faults source.old) (S.faults source.new) }
     ensures fault_taken { IsErrOf result ReadEnd.Fault → ConsumesAtMost (S.left source.old) (S.left source.new) limit }
     ensures greater { S.faults source.old < S.faults source.new → IsErrOf result ReadEnd.Fault }
