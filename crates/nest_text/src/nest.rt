@@ -2,8 +2,8 @@
 use fixed_words::List;
 use unit_tree::{Instance, Name, PortName, System, Wire};
 
-/// A line of a group that connects a port of the group with a port inside: `in u -> a.v` or `out y =
-/// a.w`.
+/// A line of a group that connects a port of the group with a port inside.
+/// It is `in u -> a.v` or `out y = a.w`.
 #[derive(Debug, Drop)]
 pub struct Bind {
     /// The port of the group.
