@@ -1,7 +1,7 @@
 -- Lines of nested texts: their kinds, and where each is allowed.
 --
 -- A nested text is a list of parts. Each part begins with a line `group G`, except the last one, which begins with the
--- line `main`. Names may be words of this level, since `group`, `main`, `in` and `out` are not reserved.
+-- line `main`. `group`, `main`, `in` and `out` are not reserved, so names may be these words.
 use Rattle.std.specs.Prelude.{◌≡◌, ◌⊎◌, ℕ, Bool, true, false, ◌&&◌, List, [], ◌∷◌, codes, IsTrue}
 use Rattle.std.specs.List.{AllZip, enumerate_from}
 use Rattle.unit_tree.specs.LineForms.{HasForm, port_tokens}
