@@ -208,8 +208,8 @@ abbrev pub is_above : Option ℕ → ℕ → Bool
 is_above None count = false
 is_above (Some limit) count = nat_lt limit count
 
--- Among all lines of a scope so far there are more of this kind than there may be. All lines between `step` and its own
--- `end` count as step lines, of which there may be 500.
+-- Up to this line, a scope has more lines of this kind than allowed. All lines between `step` and its own `end` count
+-- as step lines, of which 500 are allowed.
 abbrev pub is_one_too_many : Scope → List LineForm → LineForm → Bool
 is_one_too_many (StepScope unit) all line = nat_lt 500 (length all)
 is_one_too_many scope all line = is_above (limit_of line) (count_by (are_alike line) all)
