@@ -1,5 +1,5 @@
--- The generated system: components in a row, each of which but the first adds the output of one before it to its own
--- count. By draws of a seed it is chosen what each counts by, and where it takes its input from.
+-- The generated system: components in a row. Each except the first adds the output of one before it to its own count.
+-- The draws of a seed choose what each counts by, and where its input comes from.
 use Rattle.std.specs.Prelude.{ℕ, ◌-◌, ◌*◌, ◌%◌, ◌≤◌, pos, List, [], ◌∷◌, ◌++◌, map, codes, Some, None}
 use Rattle.std.specs.Fmt.{decimal}
 use Rattle.std.specs.List.{range_with_len}
