@@ -195,7 +195,7 @@ token_again (token.Name name) text rest spelled ends = rw spelled.0 (name_again 
 token_again (token.Number digits decimals) text rest spelled ends = number_again digits decimals text rest spelled ends.0 ends.1
 token_again (token.Symbol symbol) text rest spelled ends = rw spelled (symbol_again symbol rest ends)
 
--- a token's first byte is no blank
+-- a token's first byte is not a blank
 starts_apart : (test : ℕ → Bool) (text : List ℕ) → ((x : ℕ) → test x ≡ true → is_blank x ≡ false) → begins_with test text ≡ true → (rest : List ℕ)
     → begins_with is_blank (text ++ rest) ≡ false
 starts_apart test [] apart begins rest = absurd cc
