@@ -19,7 +19,8 @@
 //! - Which systems may run: `Names`, `Sites` and `WellFormed` (the lines that break each rule), and `Orders` (outputs
 //!   without a cycle).
 //!
-//! The laws of these definitions are in `language_laws` and `run_laws`. `worked_facts` tests them on small cases.
+//! The laws of these definitions are in `language_laws` and `run_laws`. `worked_facts` proves that they give the
+//! results of small cases that were worked out by hand.
 #![tactic(auto)]
 
 mod checked;
