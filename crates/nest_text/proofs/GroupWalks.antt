@@ -22,7 +22,7 @@ use Rattle.text_laws.proofs.WholeLines.{line_more}
 
 -- ---- One more line
 
--- a line that begins no group comes before others
+-- a line that begins no group is the first of those before the first group
 pub not_begun : (line : SourceLine) (kind : Kind) (behind : Parted) → ((name : List ℕ) → kind ≡ kinds.Begins name → ⊥)
     → with_line line kind behind ≡ record { front = line ∷ behind.front; groups = behind.groups }
 not_begun line (kinds.Begins name) behind not = absurd (not name refl)
