@@ -323,7 +323,7 @@ fn put_scopes<'n>(
     Ok(())
 }
 
-/// All scopes of a nest, nested at most `depth` levels deep, with a guide to them.
+/// All scopes of a nest, nested at most `levels` levels deep, with a guide to them.
 pub(crate) fn guided_scopes<'n>(
     alloc: Global,
     names: &NestNames<'n>,
