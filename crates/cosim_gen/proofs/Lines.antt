@@ -57,7 +57,7 @@ heads_are (instance ∷ instances) wires rows = ap (λ rest. instance_head insta
 small_word : (n : ℕ) → n < 1000 → is_word_of Int64 (pos n) ≡ true
 small_word n small = grind (arith, nat_tests)
 
--- A number without decimals is so many ticks of one second.
+-- A number of seconds without decimals is the same number of ticks of one second.
 ticks_are : (n : ℕ) → n ≤ 100000 → seconds_of 0 (number n) ≡ Ok n
 ticks_are n few = grind (arith, nat_tests, not_negative)
 
@@ -77,7 +77,8 @@ module _ (seed instances rows : ℕ) (can : CanGenerate instances rows) where
   more_lines : (earlier : List LineForm) (line : LineForm) → plain_lines (earlier ++ (line ∷ [])) ≡ plain_lines earlier ++ plain_lines (line ∷ [])
   more_lines earlier line = flat_map-append (plain_forms system TopScope) earlier (line ∷ [])
 
-  -- Before the instance in a place stand the instances before it, and no connection.
+  -- The lines before the instance at a place are those of the instances before it, and no
+  -- connection.
   record BeforeInstance (place : ℕ) (earlier : List LineForm) : Type 0 where
     named : AllByRecursion (NamedBefore place) (filter_map instance_declared earlier)
     alike : count_by same_instance (plain_lines earlier) ≡ place
@@ -135,7 +136,8 @@ module _ (seed instances rows : ℕ) (can : CanGenerate instances rows) where
 
   -- ---- Connections
 
-  -- Before the connection of the component in a place stand the connections of those before it.
+  -- The lines before the connection of the component at a place include the connections of those
+  -- before it.
   record BeforeWire (place : ℕ) (earlier : List LineForm) : Type 0 where
     fed : AllByRecursion (FedBefore place) (filter_map input_connected earlier)
     size : length (plain_lines earlier) ≤ 66 + place
@@ -226,7 +228,7 @@ module _ (seed instances rows : ℕ) (can : CanGenerate instances rows) where
     wires_hold (first + 1) count (earlier ++ (wire_line first ∷ [])) (omega arith) (omega arith) (behind_wire first earlier some (omega arith) before),
   )
 
-  -- Behind all instances the connections begin.
+  -- After all instances the connections begin.
   wires_begin : (earlier : List LineForm) → BeforeInstance instances earlier → BeforeWire 1 earlier
   wires_begin earlier before = record {
     fed = subst (AllByRecursion (FedBefore 1)) (sym before.unfed) tt;

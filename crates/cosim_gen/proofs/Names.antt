@@ -33,7 +33,7 @@ its_name place = bytes_of (name_in place) (name_in place) refl
 
 -- ---- They are names
 
--- `i` with digits behind it is no keyword.
+-- `i` followed by digits is not a keyword.
 not_reserved : (digits : List ℕ) → list_all is_digit digits ≡ true → keyword_of (105 ∷ digits) ≡ None
 unfolding keyword_of
 not_reserved [] all = refl

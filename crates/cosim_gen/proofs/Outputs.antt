@@ -52,7 +52,7 @@ not_ahead first few ahead =
     let same : first ≡ ahead.place = one_name first ahead.place few (omega (arith, ahead.before)) (ap (λ (port : PortName). port.instance) ahead.is) in
     absurd (omega (arith, ahead.before))
 
--- Outputs that need nothing may come in a row.
+-- Outputs without needs may be in any order.
 orderly_row : (system : System) (first count : ℕ) (before : List PortName) → first + count ≤ 64 → AllByRecursion (Ahead first) before
     → ((place : ℕ) → first ≤ place → place < first + count → IsIn (outputs_of system) (output_in place))
     → ((place : ℕ) → first ≤ place → place < first + count → needed_by system (output_in place) ≡ [])

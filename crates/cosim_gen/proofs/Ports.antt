@@ -1,4 +1,4 @@
--- What the ports of a generated system name.
+-- The ports that the lines of a generated system name.
 use Rattle.std.proofs.Common.{◌≡◌, ℕ, zero, suc, ◌+◌, ◌-◌, ◌<◌, ◌≤◌, Bool, true, false, cond, [], map, Option, Some, refl, ap, sym, ◌∙◌, arith}
 use Rattle.std.specs.Prelude.{codes}
 use Rattle.std.specs.List.{find, range_with_len}
@@ -19,7 +19,7 @@ mixer seed place = instance_in seed (codes "mix") place
 abbrev named : ℕ → Instance → Bool
 named place instance = bytes_eq instance.name (name_in place)
 
--- The first of some mixers has the name, or it is found among the others.
+-- The first mixer has the name, or it is found among the others.
 found_first : (seed place first count : ℕ) (told : Bool) → first < 64 → place < 64 → named place (mixer seed first) ≡ told
     → ((first ≡ place → ⊥) → find (named place) (map (mixer seed) (range_with_len (first + 1) count)) ≡ Some (mixer seed place))
     → cond told (Some (mixer seed first)) (find (named place) (map (mixer seed) (range_with_len (first + 1) count))) ≡ Some (mixer seed place)
@@ -76,6 +76,6 @@ module _ (seed instances rows : ℕ) (can : CanGenerate instances rows) where
       (option_and_then (unit_of_instance (generated seed instances rows)) found))
       (mixer_found place some below)
 
-  -- A mixer takes its input from before.
+  -- The input of a mixer is connected to a component before it.
   pub source_before : (place : ℕ) → 1 ≤ place → source_of seed place < place
   source_before place some = omega arith

@@ -1,4 +1,4 @@
--- One component more, by the draws behind those of the components before it.
+-- One component more, by the draws after those of the components before it.
 use Rattle.std.proofs.Common.{◌≡◌, ℕ, suc, ◌+◌, ◌-◌, ◌*◌, ◌%◌, ◌≤◌, List, [], ◌∷◌, ◌++◌, map, ap, sym, ◌∙◌, arith}
 use Rattle.std.specs.Prelude.{codes}
 use Rattle.std.specs.List.{range_with_len}
@@ -8,14 +8,14 @@ use Rattle.unit_tree.specs.declared.system.Instance.{Instance}
 use Rattle.unit_tree.specs.declared.system.Wire.{Wire}
 use Rattle.cosim_gen.specs.Generated.{instance_with, wire_between, instance_in, wire_to}
 
--- Its `k` is by the next draw, and its source by the one behind that.
+-- Its `k` is by the next draw, and its source by the draw after that.
 pub k_draw : (seed place : ℕ) → 1 ≤ place → next_draw (draw seed (2 * (place - 1))) ≡ draw seed (2 * place - 1)
 k_draw seed place some = let next : suc (2 * (place - 1)) ≡ 2 * place - 1 = omega arith in ap (draw seed) next
 
 pub source_draw : (seed place : ℕ) → 1 ≤ place → next_draw (draw seed (2 * place - 1)) ≡ draw seed (2 * place)
 source_draw seed place some = let next : suc (2 * place - 1) ≡ 2 * place = omega arith in ap (draw seed) next
 
--- What is made for each place, with what is made for the next one behind it.
+-- The elements for each place, followed by that for the next place.
 made_more : {A : Type 0} (f : ℕ → A) (place : ℕ) → 1 ≤ place
     → map f (range_with_len 1 (place - 1)) ++ (f place ∷ []) ≡ map f (range_with_len 1 (place + 1 - 1))
 made_more f place some =

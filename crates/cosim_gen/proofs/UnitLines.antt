@@ -1,4 +1,4 @@
--- The lines of the two units keep all rules, whatever components there are.
+-- The lines of the two units keep all rules, for any components.
 use Rattle.std.proofs.Common.{◌≡◌, ℕ, ◌-◌, true, List, [], ◌∷◌, Some, None, refl}
 use Rattle.std.specs.Prelude.{codes}
 use Rattle.std.specs.List.{list_all}

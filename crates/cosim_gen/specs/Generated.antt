@@ -1,5 +1,5 @@
--- The generated system: components in a row, of which each but the first adds the output of one before it to its own
--- count. A seed chooses by draws what each counts by, and from where it takes its input.
+-- The generated system: components in a row. Each except the first adds the output of one before it to its own count.
+-- The draws of a seed choose what each counts by, and where its input comes from.
 use Rattle.std.specs.Prelude.{ℕ, ◌-◌, ◌*◌, ◌%◌, ◌≤◌, pos, List, [], ◌∷◌, ◌++◌, map, codes, Some, None}
 use Rattle.std.specs.Fmt.{decimal}
 use Rattle.std.specs.List.{range_with_len}
@@ -22,7 +22,7 @@ use Rattle.unit_tree.specs.declared.unit.Param.{Param}
 use Rattle.unit_tree.specs.declared.unit.State.{State}
 use Rattle.unit_tree.specs.declared.unit.Unit.{Unit}
 
--- How many components are generated, and how many rows their trace may have: what the rules of a system allow.
+-- How many components are generated, and how many rows their trace may have, within the limits of the rules.
 pub record CanGenerate (instances rows : ℕ) : Type 0 where
   pub one_instance : 1 ≤ instances
   pub few_instances : instances ≤ instance_limit
@@ -32,7 +32,7 @@ pub record CanGenerate (instances rows : ℕ) : Type 0 where
 
 -- ---- Units
 
--- A whole number as it stands in a text.
+-- A whole number as it is written in a text.
 abbrev pub number : ℕ → Literal
 number n = literal.Number (pos n) 0
 
@@ -92,13 +92,13 @@ unit_with name inputs next = record {
 abbrev pub source_unit : Unit
 source_unit = unit_with (codes "src") [] source_next
 
--- The unit of all others.
+-- The unit of all other components.
 abbrev pub mixer_unit : Unit
 mixer_unit = unit_with (codes "mix") (input_u ∷ []) mixer_next
 
 -- ---- Components, named by their places
 
--- `iJ`, in the place J.
+-- `iJ`, at the place J.
 abbrev pub name_in : ℕ → List ℕ
 name_in place = codes "i" ++ decimal place
 
@@ -115,12 +115,12 @@ wire_between source place = record { from = port_in source (codes "y"); to = por
 
 -- ---- What draws choose
 
--- Draws are counted from 0. The component in place 0 takes draw 0 for its `k`, and each later one, in a place J, takes draw
--- 2 J - 1 for its `k` and draw 2 J for its source. (A difference of numbers is 0 at least, so 2 J - 1 is 0 in place 0.)
+-- Draws are counted from 0. The component at place 0 takes draw 0 for its `k`. Each later one, at place J, takes draw 2
+-- J - 1 for its `k` and draw 2 J for its source. (A difference is at least 0 here, so 2 J - 1 is 0 at place 0.)
 abbrev pub k_in : ℕ → ℕ → ℕ
 k_in seed place = draw seed (2 * place - 1) % 1000
 
--- The place of the component that feeds a later one: a place before its own.
+-- The place of the component whose output is connected to a later one: a place before its own.
 abbrev pub source_of : ℕ → ℕ → ℕ
 source_of seed place = draw seed (2 * place) % place
 
@@ -132,11 +132,11 @@ wire_to seed place = wire_between (source_of seed place) place
 
 -- ---- Systems
 
--- The places behind place 0.
+-- The places after place 0.
 abbrev pub later_places : ℕ → List ℕ
 later_places instances = range_with_len 1 (instances - 1)
 
--- A source, and mixers behind it. The run stops after the last of its rows, in steps of one second.
+-- A source, and mixers after it. The run stops after the last of its rows, in steps of one second.
 abbrev pub generated : ℕ → ℕ → ℕ → System
 generated seed instances rows = record {
   version = 1;

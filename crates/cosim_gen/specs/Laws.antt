@@ -1,4 +1,4 @@
--- Laws of generated systems: whatever the seed, they are printable, well-formed and without a cycle.
+-- Laws of generated systems: for every seed they are printable, well-formed and without a cycle.
 use Rattle.std.specs.Prelude.{ℕ}
 use Rattle.unit_tree.specs.Orders.{HasNoCycle}
 use Rattle.unit_tree.specs.Printable.{IsPrintable}

@@ -1,4 +1,4 @@
--- A generated system that was worked out by hand: two components by the seed 0, for three rows.
+-- A generated system that was worked out by hand: two components from the seed 0, for three rows.
 use Rattle.std.specs.Prelude.{◌≡◌, ℕ, List, [], ◌∷◌, map, codes}
 use Rattle.unit_tree.specs.Canonical.{canonical_forms, line_text}
 use Rattle.cosim_gen.specs.Generated.{generated}

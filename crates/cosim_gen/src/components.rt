@@ -16,7 +16,7 @@ pub(crate) struct Components {
     pub wires: List<Wire>,
 }
 
-/// `iJ`, in the place J.
+/// `iJ`, at the place J.
 fn name_in(alloc: Global, place: u64) -> Result<Name, NoMemory>
     ensures { IfOk result (λ name. name ≡ name_in place) }
 {
@@ -26,7 +26,7 @@ fn name_in(alloc: Global, place: u64) -> Result<Name, NoMemory>
     Ok(List::from_vec(text))
 }
 
-/// A component of a unit with its `k`, which is what a draw leaves of 1,000.
+/// A component of a unit with its `k`, which is the draw modulo 1,000.
 fn instance(alloc: Global, place: u64, unit: &[u8], drawn: u64) -> Result<Instance, NoMemory>
     ensures { IfOk result (λ instance. instance ≡ instance_with place unit.now (drawn % 1000)) }
 {
@@ -60,7 +60,7 @@ fn wire(alloc: Global, source: u64, place: u64) -> Result<Wire, NoMemory>
     })
 }
 
-/// A source, and mixers behind it with their connections.
+/// A source, and mixers after it, with their connections.
 pub(crate) fn components_of(alloc: Global, seed: u64, count: u64) -> Result<Components, NoMemory>
     requires { 1 ≤ count }
     ensures instances { IfOk result (λ made. made.instances ≡ instance_in seed (codes "src") 0 ∷ map (instance_in seed (codes "mix")) (later_places count)) }

@@ -18,10 +18,10 @@ fn units(alloc: Global) -> Result<List<Unit>, NoMemory>
     Ok(units)
 }
 
-/// A system of so many components, which is run for so many rows in steps of one second. The components and their
-/// connections are those that the draws of the seed choose.
+/// Returns a system of this many components, which is run for this many rows in steps of one second. The draws of
+/// the seed choose the parameters of the components and their connections.
 ///
-/// The one error is want of memory.
+/// The only error is that there is no memory.
 pub fn generate(alloc: Global, seed: u64, instances: u32, rows: u32) -> Result<System, NoMemory>
     requires { CanGenerate instances rows }
     ensures { IfOk result (λ system. system ≡ generated seed instances rows) }

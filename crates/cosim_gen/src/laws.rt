@@ -16,7 +16,7 @@ pub fn generated_systems_have_no_cycle()
     ensures { GeneratedHaveNoCycle }
 {}
 
-/// A generated system whose text was worked out by hand is the one that the definitions give.
+/// A law: the definitions give the generated system whose text was worked out by hand.
 pub fn generated_system_is_worked()
     ensures { GeneratedIsWorked }
 {}

@@ -1,11 +1,11 @@
 //! The generator: a large valid system from a number.
 //!
-//! [`generate`] makes the components, their parameters and their connections by the draws of a seed. Whatever the seed,
-//! the system is printable, well-formed and without a cycle, so that it can be printed, checked and run: the public
+//! [`generate`] chooses the components, their parameters and their connections by the draws of a seed. For every seed
+//! the system is printable, well-formed and without a cycle, so that it can be printed, checked and run. The public
 //! functions without a body are these laws.
 //!
-//! Definitions: `specs/Generated.antt` (the system, and of how many components and rows there is one), `specs/Laws.antt`,
-//! `specs/Worked.antt` (one that was worked out by hand).
+//! Definitions: `specs/Generated.antt` (the system, and for which numbers of components and rows there is one),
+//! `specs/Laws.antt`, `specs/Worked.antt` (a system that was worked out by hand).
 #![tactic(auto)]
 
 mod components;

@@ -22,7 +22,7 @@ pub(crate) fn one<T: Drop>(alloc: Global, item: T) -> Result<List<T>, NoMemory>
     Ok(list)
 }
 
-/// A whole number as it stands in a text.
+/// A whole number as it is written in a text.
 pub(crate) fn number(word: i64) -> Literal
     ensures { result ≡ Literal.Number word 0 }
 {
@@ -141,7 +141,7 @@ fn output_y(alloc: Global) -> Result<Output, NoMemory>
     })
 }
 
-/// What the units declare alike in front of their inputs: the parameter `k` and the state `n`.
+/// What both units declare before their inputs: the parameter `k` and the state `n`.
 fn declarations(alloc: Global) -> Result<(List<Param>, List<State>), NoMemory>
     ensures { IfOk result (λ both. (both.0 ≡ param_k ∷ []) × (both.1 ≡ state_n ∷ [])) }
 {
@@ -193,7 +193,7 @@ pub(crate) fn source_unit(alloc: Global) -> Result<Unit, NoMemory>
     unit_with(alloc, name(alloc, b"src")?, List::new(alloc), next)
 }
 
-/// The unit of all others.
+/// The unit of all other components.
 pub(crate) fn mixer_unit(alloc: Global) -> Result<Unit, NoMemory>
     ensures { IfOk result (λ unit. unit ≡ mixer_unit) }
 {

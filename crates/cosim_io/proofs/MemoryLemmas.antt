@@ -1,14 +1,14 @@
--- What a source over memory takes of its bytes.
+-- What a source over memory takes.
 use Rattle.std.proofs.Common.{◌≡◌, ℕ, ◌+◌, ◌-◌, ◌<◌, List, [], ◌++◌, length, min, take, drop, sym, ◌∙◌, ap, arith, take-append-drop, length-append, length-take}
 use Rattle.std.proofs.Common.{length-drop}
 use Rattle.std.proofs.lemmas.List.{take_all, take_at, drop_all, drop-drop}
 
--- what is left as a slice of the code gives it
+-- the bytes that are left, as the slice that the code takes
 pub left_slice : (bytes all : List ℕ) (taken : ℕ) → all ≡ bytes → take (length all - taken) (drop taken all) ≡ drop taken bytes
 left_slice bytes all taken same =
     take_all (length all - taken) (drop taken all) (omega (arith, length-drop taken all)) ∙ ap (drop taken) same
 
--- the front of what is left stands in the first places, and the rest is left
+-- a prefix of what is left is in the first places of `into`, and the rest is left
 pub taken_front : (bytes left old into : List ℕ) (taken n : ℕ) → left ≡ drop taken bytes → n ≡ min (length left) (length old)
     → into ≡ take n left ++ drop n old → (drop taken bytes ≡ take n into ++ drop (taken + n) bytes) × (n ≡ 0 → 0 < length into → drop (taken + n) bytes ≡ [])
 taken_front bytes left old into taken n is count copied = (

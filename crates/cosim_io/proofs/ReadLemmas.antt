@@ -15,7 +15,7 @@ module _ (old mid new : Option (List ℕ)) (before now : ℕ) (bytes : List ℕ)
   size_more : (into : List ℕ) (n : ℕ) → n ≤ length into → length (bytes ++ take n into) ≡ length bytes + n
   size_more into n fits = omega (arith, length-append bytes (take n into), length-take n into)
 
-  -- with the next read the byte after the limit is taken
+  -- with the next read the byte after the limit was taken
   pub Taken-past : (into : List ℕ) (n : ℕ) → Taken old mid before now bytes limit → Consumes mid new (take n into) → n ≤ length into
       → limit < length bytes + n → length bytes + n ≤ limit + 1 → ConsumesExactly old new (limit + 1)
   Taken-past into n so_far more fits past room = record {
@@ -24,7 +24,7 @@ module _ (old mid new : Option (List ℕ)) (before now : ℕ) (bytes : List ℕ)
     consumed = Consumes-trans old mid new bytes (take n into) so_far.consumed more;
   }
 
-  -- with the next read no more than that byte is taken
+  -- with the next read no byte after that one was taken
   pub Taken-most : (into : List ℕ) (n : ℕ) → Taken old mid before now bytes limit → Consumes mid new (take n into) → n ≤ length into
       → length bytes + n ≤ limit + 1 → ConsumesAtMost old new (limit + 1)
   Taken-most into n so_far more fits room = record {

@@ -1,4 +1,4 @@
--- How far a loop over `write` has come with its piece.
+-- How much of its piece a loop over `write` has written.
 use Rattle.std.proofs.Common.{◌≡◌, ℕ, ◌-◌, List, ◌++◌, length, take, drop, sym, ◌∙◌, ap, subst, arith, append_assoc, take-append-drop, length-drop}
 use Rattle.std.proofs.lemmas.List.{take_all}
 use Rattle.std.proofs.KnownBytes.{Appends-trans, Appends-kept}
@@ -7,7 +7,7 @@ use Rattle.std.specs.declared.option.Option.{Option}
 use Rattle.cosim_io.specs.Pieces.{AppendsPrefix}
 use Rattle.cosim_io.proofs.PieceLemmas.{AppendsPrefix-whole, AppendsPrefix-longer}
 
--- so far a front of the piece was appended, and `rest` is what is left of it
+-- so far a prefix of the piece was appended, and `rest` is what is left of it
 pub record Written (old new : Option (List ℕ)) (piece rest : List ℕ) : Type 0 where
   pub done : List ℕ
   pub parts : done ++ rest ≡ piece
@@ -21,7 +21,7 @@ Written-more a b c piece rest n so_far more = record {
   appended = Appends-trans a b c so_far.done (take n rest) so_far.appended more;
 }
 
--- the rest as a slice of the code gives it
+-- the rest, as the slice that the code takes
 pub Written-slice : (a b c : Option (List ℕ)) (piece rest : List ℕ) (n : ℕ) → Written a b piece rest → Appends b c (take n rest)
     → Written a c piece (take (length rest - n) (drop n rest))
 Written-slice a b c piece rest n so_far more =

@@ -9,7 +9,7 @@ use std::io::{Read, Write};
 #[cfg(test)]
 mod tests;
 
-/// A source over any reader of std. Each `Err` of a read is a fault, one that was only interrupted too.
+/// A source over any reader of std. Each `Err` of a read is a fault, also `Interrupted`.
 #[derive(Drop)]
 pub struct StdSource<R: Read> {
     inner: R,
@@ -17,7 +17,7 @@ pub struct StdSource<R: Read> {
 }
 
 impl<R: Read> StdSource<R> {
-    /// The source of what `inner` has left, whose count of faults is 0.
+    /// Returns the source of the bytes that `inner` has left. Its count of faults is 0.
     pub fn new(inner: R) -> Self
         ensures left { ⟦<StdSource<R> as Source>⟧.left result ≡ R.remaining inner }
         ensures faults { ⟦<StdSource<R> as Source>⟧.faults result ≡ 0 }
@@ -42,8 +42,8 @@ impl<R: Read> Source for StdSource<R> {
     }
 }
 
-/// A sink over any writer of std. Each `Err` of a write or a flush is a fault, one that was only interrupted too, and
-/// so is a write that takes nothing of a piece that isn't empty.
+/// A sink over any writer of std. Each `Err` of a write or a flush is a fault, also `Interrupted`. A write that takes
+/// no byte of a nonempty piece is a fault too.
 #[derive(Drop)]
 pub struct StdSink<W: Write> {
     inner: W,
@@ -51,7 +51,7 @@ pub struct StdSink<W: Write> {
 }
 
 impl<W: Write> StdSink<W> {
-    /// The sink that appends to what `inner` holds, whose count of faults is 0.
+    /// Returns the sink that appends to what `inner` holds. Its count of faults is 0.
     pub fn new(inner: W) -> Self
         ensures held { ⟦<StdSink<W> as Sink>⟧.held result ≡ W.contents inner }
         ensures faults { ⟦<StdSink<W> as Sink>⟧.faults result ≡ 0 }
@@ -74,7 +74,7 @@ impl<W: Write> Sink for StdSink<W> {
     }
 }
 
-// Writes until the piece is all taken, and flushes.
+// Writes until the whole piece is taken, then flushes.
 fn write_out<W: Write>(writer: &mut W, piece: &[u8]) -> Result<(), Failed>
     ensures whole { OnOk result (Appends (W.contents writer.old) (W.contents writer.new) piece.now) }
     ensures front { OnErr result (AppendsPrefix (W.contents writer.old) (W.contents writer.new) piece.now) }

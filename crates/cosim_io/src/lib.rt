@@ -1,14 +1,14 @@
-//! The outside, as the rest of the co-simulation sees it: bytes are taken from a [`Source`] and appended to a [`Sink`],
-//! and each of the two counts its faults, so that whoever answers a failure can be held to its cause.
+//! The outside, as the rest of the co-simulation sees it. Bytes are taken from a [`Source`] and appended to a [`Sink`].
+//! Each counts its faults, so that a caller that reports a failure can be proved to have had one.
 //!
 //! A crate above is generic over `S: Source` and `O: Sink`. It may use the two traits, [`read_all`] with its
-//! [`ReadEnd`], and their clauses. A program hands in [`StdSource`] and [`StdSink`] over the standard streams, a test
-//! [`MemSource`] and [`MemSink`], whose failing calls it lists. [`NullSink`] keeps nothing: for whoever wants what a run
-//! reports, and not what it puts.
+//! [`ReadEnd`], and their clauses. A program passes [`StdSource`] and [`StdSink`] over the standard streams. A test
+//! passes [`MemSource`] and [`MemSink`], whose failing calls it lists. [`NullSink`] keeps nothing: it is for a caller
+//! that needs the outcome of a run and not its output.
 //!
-//! The definitions stand in `specs/`: `Faults` says when a count rose and what a call leaves of it, `Pieces` what is
-//! taken and appended, `Scripted` what the source and the sink over memory are. The laws that a caller of several reads
-//! or puts needs stand in `proofs/FaultLemmas` and `proofs/PieceLemmas`; a function that makes several puts names them
+//! The definitions are in `specs/`: `Faults` (when a count rose, and what a call does to it), `Pieces` (what is taken
+//! and appended), `Scripted` (what the source and the sink over memory do). Laws for a caller that reads or writes
+//! several times are in `proofs/FaultLemmas` and `proofs/PieceLemmas`. A function that writes several times names them
 //! by `using(cosim_io::proofs::PieceLemmas::piece_laws)`.
 #![tactic(auto)]
 

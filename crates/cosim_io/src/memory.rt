@@ -12,8 +12,8 @@ use std::marker::Model;
 
 /// A source of given bytes, which fails at the calls whose numbers are listed.
 ///
-/// Calls of `read` are counted from 1. A call whose number is listed answers `Failed` and takes nothing; any other
-/// takes as many bytes as fit. The number of a call and the count of faults stay at 2^64 - 1 once they are there.
+/// Calls of `read` are counted from 1. A call whose number is listed returns `Failed` and takes nothing; any other
+/// takes as many bytes as fit. The number of a call and the count of faults stay at 2^64 - 1 once they reach it.
 #[derive(Drop)]
 pub struct MemSource {
     bytes: Vec<u8>,
@@ -32,7 +32,7 @@ impl Model for MemSource {
 }
 
 impl MemSource {
-    /// The source of these bytes, which fails at the calls with these numbers. It takes no memory.
+    /// Returns the source of these bytes, which fails at the calls with these numbers. It takes no memory.
     pub fn new(bytes: Vec<u8>, failing: Vec<u64>) -> Self
         ensures { result ≡ record { left = bytes.items; failing = failing.items; calls = 0; faults = 0 } }
     {
@@ -56,7 +56,7 @@ impl Source for MemSource {
         ensures taken { ReadConsumes (Some self.old.left) (Some self.new.left) result into.new }
         ensures cause { HasCause self.old.faults self.new.faults result }
 
-        // Besides what each source ensures:
+        // What it ensures in addition to every source:
         ensures exactly { IsErr result ↔ ReadFails self.old }
         ensures fits { IfOk result (λ count. count ≡ min (length into.old) (length self.old.left)) }
         ensures given { IfOk result (λ count. into.new ≡ take count self.old.left ++ drop count into.old) }
@@ -74,14 +74,14 @@ impl Source for MemSource {
     }
 }
 
-// Whether the call of that number is to fail.
+// Whether the call with this number fails.
 fn is_listed(number: u64, failing: &[u64]) -> bool
     ensures { IsTrue result ↔ Contains failing.now number }
 {
     failing.contains(&number)
 }
 
-// Copies as many bytes as fit into the first places, and says how many.
+// Copies as many bytes as fit into the first places of `into`, and returns how many.
 fn copy_front(from: &[u8], into: &mut [u8]) -> usize
     ensures count { result ≡ min (length from.now) (length into.old) }
     ensures copied { into.new ≡ take result from.now ++ drop result into.old }
@@ -91,11 +91,11 @@ fn copy_front(from: &[u8], into: &mut [u8]) -> usize
     count
 }
 
-/// A sink with room for so many bytes, which fails at the calls whose numbers are listed.
+/// A sink with room for a given number of bytes, which fails at the calls whose numbers are listed.
 ///
 /// Calls of `put` are counted from 1. A call fails where its number is listed, and where the piece is longer than the
-/// room that is left. It then appends the first half of the piece, rounded down, as far as the room goes. The number of
-/// a call and the count of faults stay at 2^64 - 1 once they are there.
+/// room that is left. It then appends the first half of the piece, rounded down, as far as there is room. The number of
+/// a call and the count of faults stay at 2^64 - 1 once they reach it.
 #[derive(Drop)]
 pub struct MemSink {
     held: Vec<u8>,
@@ -114,7 +114,7 @@ impl Model for MemSink {
 }
 
 impl MemSink {
-    /// A sink that holds nothing yet. It takes the memory for `room` bytes here, and none later.
+    /// Returns a sink that holds nothing. It takes the memory for `room` bytes here, and none later.
     pub fn new(alloc: Global, room: usize, failing: Vec<u64>) -> Result<Self, AllocError>
         ensures { IfOk result (λ sink. sink ≡ record { held = []; room = room; failing = failing.items; calls = 0; faults = 0 }) }
     {
@@ -127,7 +127,7 @@ impl MemSink {
         })
     }
 
-    /// All the bytes that the sink holds, in the order in which they were put.
+    /// All the bytes that the sink holds, in the order in which they were appended.
     pub fn bytes(&self) -> &[u8]
         ensures { result.now ≡ self.now.held }
     {
@@ -145,7 +145,7 @@ impl Sink for MemSink {
         ensures front { OnErr result (AppendsPrefix (Some self.old.held) (Some self.new.held) piece.now) }
         ensures cause { HasCause self.old.faults self.new.faults result }
 
-        // Besides what each sink ensures:
+        // What it ensures in addition to every sink:
         ensures exactly { IsErr result ↔ PutFails self.old piece.now }
         ensures after { OnOk result (self.new ≡ after_put self.old piece.now) }
         ensures failed { OnErr result (self.new ≡ after_failed_put self.old piece.now) }

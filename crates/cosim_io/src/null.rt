@@ -6,8 +6,8 @@ ghost use Rattle.cosim_io.specs.Pieces.{AppendsPrefix};
 
 use crate::{Failed, Sink};
 
-/// A sink that takes every piece, keeps none of it and tells no bytes. It never fails and takes no memory, so its count
-/// of faults is 0.
+/// A sink that accepts every piece and keeps none of it. The bytes that it holds are not known (`None`). It never fails
+/// and takes no memory, so its count of faults is 0.
 #[derive(Drop)]
 pub struct NullSink;
 
@@ -21,7 +21,7 @@ impl Sink for NullSink {
         ensures front { OnErr result (AppendsPrefix None None piece.now) }
         ensures cause { HasCause 0 0 result }
 
-        // Besides what each sink ensures:
+        // What it ensures in addition to every sink:
         ensures takes { IsOk result }
     {
         let _ = piece;

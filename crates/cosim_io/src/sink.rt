@@ -9,13 +9,14 @@ use crate::Failed;
 
 /// A sink of bytes.
 pub trait Sink {
-    /// The bytes that the sink holds, where it tells of them.
+    /// The bytes that the sink holds, where they are known.
     ghost held: { Self → Option (List ℕ) };
 
-    /// How often the sink has failed. The count never falls, and stays at 2^64 - 1 once it is there.
+    /// How often the sink has failed. The count never falls, and stays at 2^64 - 1 once it reaches
+    /// it.
     ghost faults: { Self → ℕ };
 
-    /// Appends the whole piece, or fails and has appended a front of it.
+    /// Appends the whole piece. On `Failed` it has appended a prefix of the piece.
     fn put(&mut self, piece: &[u8]) -> Result<(), Failed>
         ensures whole { OnOk result (Appends (held self.old) (held self.new) piece.now) }
         ensures front { OnErr result (AppendsPrefix (held self.old) (held self.new) piece.now) }

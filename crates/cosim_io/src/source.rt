@@ -7,24 +7,24 @@ ghost use Rattle.cosim_io.specs.Faults.{HasCause};
 
 use thiserror::Error;
 
-/// A read or a put failed, and the object's count of faults rose.
+/// A read or a put failed, and the count of faults of the source or sink rose.
 #[derive(Clone, Copy, Debug, PartialEq, Eq, Error)]
 #[error("reading or writing failed")]
 pub struct Failed;
 
 /// A source of bytes.
 pub trait Source {
-    /// The bytes that are left, where the source tells of them.
+    /// The bytes that are left, where they are known.
     ghost left: { Self → Option (List ℕ) };
 
-    /// How often the source has failed. The count never falls, and stays at 2^64 - 1 once it is there.
+    /// How often the source has failed. The count never falls, and stays at 2^64 - 1 once it reaches it.
     ghost faults: { Self → ℕ };
 
-    /// Takes bytes that are left into the first places of `into`, and answers how many.
+    /// Takes bytes that are left into the first places of `into`, and returns how many.
     ///
-    /// `Ok(0)` for a room that isn't empty means the end of input. An empty room gives `Ok(0)`, if the read doesn't
-    /// fail, and takes nothing. What stands in `into` behind the bytes that were taken is left open, and so is all of it
-    /// after `Failed`, which takes nothing from what is left.
+    /// `Ok(0)` for a nonempty `into` means the end of input. An empty `into` gives `Ok(0)`, if the read doesn't fail,
+    /// and takes nothing. The places of `into` after the bytes that were taken may hold anything. After `Failed` all
+    /// places of `into` may, and nothing was taken.
     fn read(&mut self, into: &mut [u8]) -> Result<usize, Failed>
         ensures within { ReadsAtMost result into.new }
         ensures taken { ReadConsumes (left self.old) (left self.new) result into.new }

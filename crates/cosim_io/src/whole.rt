@@ -1,4 +1,4 @@
-// A source read to its end.
+// Reading a source to its end.
 ghost use Rattle.std.specs.Prelude.{◌≡◌, ◌+◌, ◌<◌, ◌≤◌, IfOk, IfSome, OnOk, IsErr, IsErrOf, vec_len};
 ghost use Rattle.std.specs.Io.KnownBytes.{IsAtEnd};
 ghost use Rattle.cosim_io.specs.declared.whole.ReadEnd.TheVariants.{Fault, NoMemory};
@@ -39,26 +39,26 @@ impl From<AllocError> for ReadEnd {
     }
 }
 
-// How many bytes one read asks for at most.
+// The most bytes that one read requests.
 const CHUNK: usize = 4096;
 
-/// Reads all the bytes that are left, up to the end of input, where these are at most `limit` bytes.
+/// Reads all the bytes that are left, up to the end of input, if these are at most `limit` bytes.
 ///
-/// No more than the byte after the limit is taken: `TooLong` comes as soon as that one was, and leaves the rest unread.
-/// `Fault` comes at the first read that fails, before which at most `limit` bytes were taken. After `Fault` and
-/// `NoMemory` the bytes that were taken are lost.
+/// No more than the byte after the limit is taken: `TooLong` is returned as soon as that byte was taken, and the rest
+/// is left unread. `Fault` is returned at the first read that fails, before which at most `limit` bytes were taken.
+/// After `Fault` and `NoMemory` the bytes that were taken are lost.
 pub fn read_all<S: Source>(alloc: Global, source: &mut S, limit: usize) -> Result<Vec<u8>, ReadEnd>
     ensures all { IfOk result (λ bytes. IfSome (S.left source.old) (λ left. bytes.items ≡ left)) }
     ensures ended { OnOk result (IsAtEnd (S.left source.new)) }
     ensures same { OnOk result (S.faults source.new ≡ S.faults source.old) }
     ensures within { IfOk result (λ bytes. vec_len bytes ≤ limit) }
 
-    // The byte after the limit was taken, none is taken behind it, and a longer input is never answered with `Ok`.
+    // The byte after the limit was taken and none after it. A longer input never gives `Ok`.
     ensures too_long { IsErrOf result ReadEnd.TooLong → ConsumesExactly (S.left source.old) (S.left source.new) (limit + 1) }
     ensures longer { IsLongerThan (S.left source.old) limit → IsErr result }
     ensures taken { ConsumesAtMost (S.left source.old) (S.left source.new) (limit + 1) }
 
-    // It doesn't give up by itself, no fault goes untold, and no byte after the limit was taken before one.
+    // `Fault` is returned exactly for a fault of the source, and no byte after the limit was taken before one.
     ensures fault { IsErrOf result ReadEnd.Fault → Rose (S.faults source.old) (S.faults source.new) }
     ensures fault_taken { IsErrOf result ReadEnd.Fault → ConsumesAtMost (S.left source.old) (S.left source.new) limit }
     ensures greater { S.faults source.old < S.faults source.new → IsErrOf result ReadEnd.Fault }
@@ -67,7 +67,7 @@ pub fn read_all<S: Source>(alloc: Global, source: &mut S, limit: usize) -> Resul
     let mut bytes = Vec::new(alloc);
     let mut chunk = [0; CHUNK];
     'reading: loop {
-        // Room for one byte more than the limit leaves, since only that one tells a text that is too long.
+        // Room for one byte more than the limit leaves, since only that byte shows that a text is too long.
         let room = (limit - bytes.len()).min(CHUNK - 1) + 1;
         let count = source.read(&mut chunk[..room])?;
         if count == 0 {

@@ -1,4 +1,4 @@
--- Draws, and some that were worked out by hand.
+-- Draws, and some draws that were worked out by hand.
 use Rattle.std.specs.Prelude.{◌≡◌, ℕ, zero, suc, ◌+◌, ◌*◌, ◌%◌}
 
 -- The number before the first draw of a seed.
@@ -9,7 +9,7 @@ draw_start seed = seed % 2147483646 + 1
 abbrev pub next_draw : ℕ → ℕ
 next_draw x = (48271 * x) % 2147483647
 
--- The draw of a seed in a place, counted from 0.
+-- The draw of a seed at a place, counted from 0.
 abbrev pub draw : ℕ → ℕ → ℕ
 draw seed zero = next_draw (draw_start seed)
 draw seed (suc place) = next_draw (draw seed place)

@@ -1,9 +1,9 @@
-//! Draws: numbers that look random and are the same on every machine, by which systems are generated and the events of
-//! worlds are chosen.
+//! Draws: numbers that look random and are the same on every machine. They choose the systems that are generated, and
+//! the events of worlds.
 //!
-//! A draw is the one before it times 48271, modulo the prime 2147483647. A seed gives the number that stands before its
-//! first draw ([`draw_start`]), and whoever uses a draw makes the next one first ([`next_draw`]). The layers above use
-//! these two calls and the definitions in `specs/Draws.antt`. No call allocates, and none refuses. The public function
+//! A draw is the one before it times 48271, modulo the prime 2147483647. [`draw_start`] gives the number before the
+//! first draw of a seed. A caller makes the next draw by [`next_draw`] before it uses it. The layers above use these
+//! two calls and the definitions in `specs/Draws.antt`. No call takes memory, and none fails. The public function
 //! without a body is a law.
 #![tactic(auto)]
 
@@ -31,7 +31,7 @@ pub fn next_draw(x: u64) -> u64
     (FACTOR * u128::from(x) % MODULUS) as u64
 }
 
-/// Draws that were worked out by hand are those that the definitions give.
+/// A law: the definitions give the draws that were worked out by hand.
 pub fn draws_are_worked()
     ensures { DrawsAreWorked }
 {}

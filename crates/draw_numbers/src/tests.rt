@@ -1,6 +1,6 @@
 use super::next_draw;
 
-// The generator is the one that C++ names `minstd_rand`, whose standard tells this draw of it from 1.
+// The generator is `minstd_rand` of the C++ standard, which states this draw of seed 1.
 #[test]
 fn the_ten_thousandth_draw_is_that_of_the_standard(rt: HostRuntime) {
     let mut x = 1;

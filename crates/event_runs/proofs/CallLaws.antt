@@ -43,7 +43,7 @@ use Rattle.event_runs.proofs.SlotLaws.{Slot, Same, Tells, source_variables, sour
 use Rattle.event_runs.proofs.SlotLaws.{same_front}
 use Rattle.event_runs.proofs.ValueLaws.{Given, same}
 
--- The word that stands for no event is one of each type.
+-- The word that is used where no event occurs is a word of each type.
 pub zero_given : (ty : Ty) → given_as ty (zero_value ty) ≡ Ok (pos 0)
 zero_given types.Int8 = refl
 zero_given types.UInt8 = refl
@@ -152,9 +152,9 @@ fronts_within (suc count) [] (word ∷ words) behind is within = absurd (none_un
 fronts_within (suc count) (one ∷ variables) (word ∷ words) behind is within =
     fronts_within count variables words behind (one_less word words one variables is) (omega (arith, within))
 
--- ---- Names of presence
+-- ---- Names of `?` ports
 
--- Variables of plain names are passed over.
+-- A search for the name of a `?` port passes over variables with plain names.
 pub passed : (variables : List Variable) (words : List ℤ) (behind : List Slot) (name : List ℕ) → AllByRecursion (λ one. IsWord one.name) variables
     → plain_value (same_slots variables words ++ behind) (presence_name name) ≡ plain_value behind (presence_name name)
 passed [] words behind name named = refl

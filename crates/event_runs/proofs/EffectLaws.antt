@@ -62,7 +62,7 @@ plain_env both = record {
       both.accepted;
 }
 
--- What a block speaks of, line by line.
+-- The names and events that a block uses, line by line.
 pub of_joined : (P : LineForm → Type 0) (lines : List Line) → AllByRecursion P (joined (map line_forms lines))
     → AllByRecursion (λ some. AllByRecursion P (line_forms some)) lines
 of_joined P [] all = tt
@@ -71,7 +71,8 @@ of_joined P (some ∷ lines) all =
     (both.0, of_joined P lines both.1)
 
 module _ (occurring : Occurring) (events : List (List ℕ)) (count : ℕ) where
-  -- The plain variables of presence tell of what occurs, and so many slots in front stand in both.
+  -- The plain variables `u?` state which events occur, and the first slots, of this number, are in
+  -- both environments.
   pub record IsBoth (both : Both) : Type 0 where
     pub tells : (name : List ℕ) → is_among events name ≡ true → plain_value both.slots (presence_name name) ≡ truth (occurring name)
     pub fronts : Fronts count both.slots
@@ -173,7 +174,7 @@ module _ (occurring : Occurring) (events : List (List ℕ)) (count : ℕ) where
   pub accepting_alike : (length : ℤ) → EffectsAlike (accepting length) (accepting length)
   accepting_alike length both is = accepting_by (is_between (pos 0) (pos both.step) length) length both is
 
-  -- What follows the value of an expression.
+  -- The step after the value of an expression.
   pub value_next : (value : Expr) (next next' : Value → Effect) → Speaks events value → ((given : Value) → EffectsAlike (next given) (next' given))
       → EffectsAlike (λ env. value_of (plain_expression value) env >>= λ given. next given env)
       (λ env. value_in occurring value env >>= λ given. next' given env)
@@ -186,7 +187,7 @@ module _ (occurring : Occurring) (events : List (List ℕ)) (count : ℕ) where
       by_value (Ok v) = alike v both is
       by_value (Err fault) = refl
 
-  -- Effects that are those of lines are alike where those are.
+  -- Effects agree if others do that give the same in each environment.
   pub alike_of : (plain plain' source source' : Effect) → ((env : Environment) → plain env ≡ plain' env) → ((env : Environment) → source env ≡ source' env)
       → EffectsAlike plain' source' → EffectsAlike plain source
   alike_of plain plain' source source' on_plain on_source alike both is =
@@ -215,7 +216,7 @@ module _ (occurring : Occurring) (events : List (List ℕ)) (count : ℕ) where
   all_alike [] said = tt
   all_alike (one ∷ lines) said = (one.1 said.0, all_alike lines said.1)
 
-  -- What a line's own form says.
+  -- What is known from the form of a line alone.
   pub says : (some : LineForm) (value : Expr) (front : List (List ℕ)) → names_on some ≡ front ++ names_in value → AllByRecursion IsWord (names_on some)
       → are_among events (events_asked_in value) ≡ true → AllByRecursion IsWord front × Speaks events value
   says some value front is words asked =

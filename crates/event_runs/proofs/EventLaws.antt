@@ -1,4 +1,4 @@
--- The two plain expressions of an event output give what its own one tells.
+-- The two plain expressions of an event output give the event of its own expression.
 use Rattle.std.proofs.Common.{◌≡◌, ℕ, zero, suc, Bool, true, false, ℤ, pos, List, if◌then◌else◌, Option, Some, None, Result, Ok, Err, inl, inr, refl, sym, ap}
 use Rattle.std.proofs.Common.{◌∙◌, subst}
 use Rattle.fixed_words.specs.declared.types.Fault.{Fault}
@@ -29,7 +29,7 @@ use Rattle.event_runs.specs.Laws.{Speaks, Shows, AreTwo, zero_value}
 use Rattle.event_runs.proofs.ValueLaws.{Given, in-Number, in-Truth, in-Var, in-Time, in-Step, in-Unary, in-Binary, in-Clamp, in-Choose, in-Absent, in-Present}
 use Rattle.event_runs.proofs.ValueLaws.{same-two, same-three, same-choose, said-Choose, same}
 
--- ---- What an expression tells has its value beside it
+-- ---- The plain value, of the two results of an expression
 
 module _ (occurring : Occurring) where
   abbrev pub told_in : Expr → Telling
@@ -151,7 +151,7 @@ module _ (occurring : Occurring) (events : List (List ℕ)) (env plain : Environ
   abbrev pub Two : Expr → Type 0
   Two value = Speaks events value → AreTwo ty (event_in occurring value env) (plainly (presence_of value) plain) (plainly (word_expression_of ty value) plain)
 
-  -- An expression that is no choice.
+  -- An expression that is not a choice.
   pub no_choice : (value : Expr) → presence_of value ≡ expr.Truth true → word_expression_of ty value ≡ value
       → event_in occurring value env ≡ told_of ((telling occurring value).value env) → Two value
   no_choice value tells word told said =
@@ -170,7 +170,7 @@ module _ (occurring : Occurring) (events : List (List ℕ)) (env plain : Environ
   abbrev pub as_it_is : Expr → Expr
   as_it_is other = other
 
-  -- The two sides of what is told, for one node.
+  -- Both sides for one node.
   pub told_by : (value : Expr) (one : Telling) → telling occurring value ≡ one → one.event env ≡ told_of (one.value env)
       → event_in occurring value env ≡ told_of ((telling occurring value).value env)
   told_by value one is told = ap (λ (t : Telling). t.event env) is ∙ told ∙ sym (ap (λ (t : Telling). told_of (t.value env)) is)

@@ -100,7 +100,7 @@ module _ (shape : List Bool) (ports : Ports) (are_tidy : AreTidy shape ports) (o
       ∙ told_at number source
       (option_and_then result_err (option_map (λ s. get_out one.member.component state s (Plain output)) (seen_for signals output.needs one))) is
 
-  -- Of two gets of an event output the first that faults has its fault.
+  -- Of the two gets of an event output, the first that faults has its fault.
   pub two_told : (number source : ℕ) (event : Result Signal Fault) (first second : Outcome) → read number ≡ source → read (number + 1) ≡ source
       → AreTwoGets event first second
       → option_map tell (or_first (at_number number (result_err first)) (at_number (number + 1) (result_err second))) ≡ at_number source (result_err event)
@@ -160,7 +160,7 @@ module _ (shape : List Bool) (ports : Ports) (are_tidy : AreTidy shape ports) (o
   abbrev pub source_faults : ℕ → List Out → List (Option Ending)
   source_faults from outs = map (event_fault_at signals instance (one, state)) (enumerate_from from outs)
 
-  -- From here on plain numbers are read as those of the source.
+  -- From here on, numbers of the plain form are read as those of the source.
   abbrev pub Reads : ℕ → ℕ → List Bool → Type 0
   Reads number source shape' = (j : ℕ) → read (number + j) ≡ source + output_read shape' j
 

@@ -1,4 +1,5 @@
--- Where no output is undefined, members give in the source what they give in the plain form.
+-- Where no output is undefined, the results of members' calls in the source are those in the plain
+-- form.
 use Rattle.std.proofs.Common.{◌≡◌, ℕ, zero, suc, Bool, true, ℤ, pos, List, [], ◌∷◌, ◌++◌, map, length, if◌then◌else◌, Option, Some, None, inl, inr, refl, sym}
 use Rattle.std.proofs.Common.{ap, ◌∙◌, subst}
 use Rattle.std.specs.Prelude.{zip, slice_get, is_some}

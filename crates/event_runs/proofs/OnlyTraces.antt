@@ -26,7 +26,7 @@ module _ (members : List EventMember) (run : Composition) (order : List ℕ) (pl
   ends_is : {one other : Ending} → ends one ≡ ends other → one ≡ other
   ends_is is = cc
 
-  -- Two stands of one position are one.
+  -- Two stands at the same position are the same.
   same_stand : (here : Stand) (other : EventStand) → HasWords run here.at → IsStand run here → IsEventAssignment members other.at.states other.signals
       → other.at ≡ here.at → other ≡ read_stand members here
   same_stand here other words is assigned same =

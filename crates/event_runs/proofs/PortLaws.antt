@@ -34,7 +34,7 @@ use Rattle.event_runs.specs.Events.{Signal, Occurs, Absent, Seen, word_seen}
 use Rattle.event_runs.proofs.CallLaws.{one_less, none_over, none_under}
 use Rattle.event_runs.proofs.SlotLaws.{other_bytes}
 
--- ---- Lists of what is there
+-- ---- Lists of the elements that are there
 
 abbrev pub joined : {A : Type 0} → Option (List A) → Option (List A) → Option (List A)
 joined (Some xs) (Some ys) = Some (xs ++ ys)
@@ -171,7 +171,7 @@ among_presence unit (need ∷ needs) name words event =
         other_bytes name need (λ same.
         true_is_false (is_among (event_input_names unit) need) (ap (is_among (event_input_names unit)) (sym same) ∙ event) none)
 
--- ---- What an output sees
+-- ---- What an output reads
 
 module _ (shape : List Bool) (ports : Ports) (tidy : AreTidy shape ports) where
   abbrev pub signals : Signals
@@ -216,7 +216,7 @@ module _ (shape : List Bool) (ports : Ports) (tidy : AreTidy shape ports) where
         ∷ map (seen_by ports output) (zip inputs (map (plain_source shape) sources))) (source_word source fits.0)
         ∙ ap (λ rest. word_needed signals needs (input, source) ∷ rest) (plain_seen inputs sources named.1 fits.1)
 
-    -- An event input that is not needed shows 0 and 0.
+    -- An event input that is not needed is read as 0 and 0.
     abbrev pub StartsAtZero : EventIn → Type 0
     StartsAtZero event = start_word event.ty (no_event event.ty) ≡ pos 0
 
@@ -227,7 +227,7 @@ module _ (shape : List Bool) (ports : Ports) (tidy : AreTidy shape ports) where
     pair_by true event feed one other is fits zero_start = sym (ap (λ sources. all_there (map (input_word ports) sources)) is) ∙ feed_words feed fits
     pair_by false event feed one other is fits zero_start = ap (λ word. all_there (Some (pos 0) ∷ Some word ∷ [])) zero_start
 
-    -- The pair's elements, by what the feed is.
+    -- The elements of the pair, by the source of the input.
     pub pair_seen : (event : EventIn) (feed : Option ℕ) (one other : InputSource) → plain_feed shape feed ≡ one ∷ other ∷ [] → FeedFits shape feed
         → StartsAtZero event → IsWord event.name → is_among (event_input_names unit) event.name ≡ true
         → all_there (map (seen_by ports output) (zip (plain_inputs event) (one ∷ other ∷ [])))
@@ -305,7 +305,7 @@ zero_start (types.Fixed decimals) =
     ap (λ told. or_zero (within_type (types.Fixed decimals) (if told then Ok (pos 0 *ℤ ten_to (decimals - 0)) else Err Form))) least
     ∙ ap (λ word. or_zero (within_type (types.Fixed decimals) (Ok word))) product
 
--- ---- Both parts of what is seen
+-- ---- Both parts of what is read
 
 pub record SeenParts (words : Option (List ℤ)) (events : Option (List Signal)) (seen : Seen) : Type 0 where
   pub words_are : words ≡ Some seen.words

@@ -1,4 +1,4 @@
--- The rows of a plain form, read, are those of the source.
+-- The rows of a plain form, read as signals, are those of the source.
 use Rattle.std.proofs.Common.{◌≡◌, ℕ, Bool, true, false, if◌then◌else◌, pos, List, [], ◌∷◌, map, length, Option, Some, None, refl, sym, ap, ◌∙◌, subst}
 use Rattle.std.specs.Prelude.{is_some, ◌&&◌}
 use Rattle.std.specs.List.{AllByRecursion, flat_map, filter_map, list_all, cons_option}
@@ -111,7 +111,7 @@ module _ (members : List EventMember) (run : Composition) (order : List ℕ) (pl
       fit_by (port_fault run here.at.states here.ports) here (rows_of run (next ∷ stands)) words is refl
       (follow_fit next stands ending (goes_keeps run here next are words follows.0) follows.0.1 follows.1)
 
-  -- Each row of a trace has a word for each plain output, and two for each event output.
+  -- Each row of a trace has one word for each plain output, and two for each event output.
   pub rows_fit : (stands : List Stand) (ending : Ending) → IsTrace run stands ending
       → AllByRecursion (λ row. HasShape (flat_map shape_of members) row.words) (rows_of run stands)
   rows_fit [] ending trace = tt

@@ -75,7 +75,7 @@ module _ (shape : List Bool) (ports : Ports) where
       member_front shape ports one state wired.0 tidy fit.0 (flat_map shape_of members) (plain_sides members states)
       ∙ ap (λ rest. signals_at (read_ports shape ports) (one, state) ++ rest) (read_sides members states tidy wired.1 fit.1)
 
--- ---- Equations look at signals alone
+-- ---- Equations depend only on signals
 
 module _ (shape : List Bool) (ports ports' : Ports) (tidy : AreTidy shape ports) (tidy' : AreTidy shape ports')
     (same : read_ports shape ports ≡ read_ports shape ports') where

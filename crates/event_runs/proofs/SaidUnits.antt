@@ -1,4 +1,5 @@
--- What is said in a unit of a judged system: its names are words, and its expressions ask of its event inputs alone.
+-- The content of a unit of a judged system: its names are words, and its expressions use `present` only of its event
+-- inputs.
 use Rattle.std.proofs.Common.{◌≡◌, ℕ, true, false, List, [], ◌∷◌, ◌++◌, map, Option, Some, None, inl, inr, refl, subst}
 use Rattle.std.specs.Prelude.{◌&&◌, ◌||◌, is_none, not}
 use Rattle.std.specs.List.{AllByRecursion, flat_map, list_all}
@@ -48,7 +49,7 @@ each_mapped P f (x ∷ xs) each = (each x (inl refl), each_mapped P f xs (λ y h
 
 -- ---- Expressions
 
--- An expression that keeps to what it may use asks of the events that it may ask of.
+-- An expression that uses only what it may use has in `present` only the events that it may use.
 asked : (uses : Uses) (value : Expr) → keeps_to uses value ≡ true → are_among uses.events (events_asked_in value) ≡ true
 asked uses value keeps =
     (and_parts (are_among uses.events (events_asked_in value)) (are_allowed uses.clocks (clocks_in value))
@@ -70,7 +71,7 @@ module _ (system : System) (unit : Unit) (declared : Declares (Passes system) un
   pub output_line : (output : Output) → Has unit.outputs output → AtLine (Passes system) unit (form.Output output)
   output_line output has = at (OfOutput output) (output_is_declared unit output has)
 
-  -- What an output may use, it keeps to.
+  -- An output uses only what it may use.
   used : (needs : List (List ℕ)) (value : Expr) → (not (keeps_to (output_uses unit) value) || not (are_among (input_names unit) needs)) ≡ false
       → are_among asks (events_asked_in value) ≡ true
   used needs value none =

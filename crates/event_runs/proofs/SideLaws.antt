@@ -145,7 +145,7 @@ module _ (shape : List Bool) (ports : Ports) (one : EventMember) (state : List �
     abbrev pub signals : Signals
     signals = read_ports shape ports
 
-    -- What an output of the plain form sees is what that of the source does.
+    -- What an output of the plain form reads is what that of the source does.
     pub seen_is : (needs : List (List ℕ)) (output : Output) → AllByRecursion IsWord needs → output.needs ≡ plain_needs unit needs
         → inputs_for ports (outlet_for output) ≡ option_map plain_words (seen_for signals needs one)
     seen_is needs output words needs_is =
@@ -234,7 +234,7 @@ module _ (shape : List Bool) (ports : Ports) (one : EventMember) (state : List �
           (seen_is event.needs (second_of event) words refl)
           ∙ event_by event (seen_for signals event.needs one) said refl
 
-      -- ---- All outputs of a member, in front of others
+      -- ---- All outputs of a member, before others
 
       pub plain_front : (outputs : List Output) (shape' : List Bool) (ports' : Ports)
           → AllByRecursion (λ output. Speaks (event_input_names unit) output.value) outputs
@@ -278,7 +278,7 @@ module _ (shape : List Bool) (ports : Ports) (one : EventMember) (state : List �
           (read_ports shape' ports'))
           ∙ ap (λ front. front ++ read_ports shape' ports') (sym (map-append (signal_of signals at) (map Plain unit.outputs) (map Event unit.events_out)))
 
-  -- ---- Tidy, in front of others
+  -- ---- Tidy, before others
 
   pub plain_tidy : (outputs : List Output) (shape' : List Bool) (ports' : Ports) → AreTidy shape' ports'
       → AreTidy (map is_event (map Plain outputs) ++ shape') (words_of (map (plain_output unit) outputs) ++ ports')

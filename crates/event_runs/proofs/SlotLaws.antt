@@ -1,5 +1,5 @@
--- Variables with their words, of a source and of its plain form at once: each stands in both, but for those that tell of
--- events, which stand in the plain form alone.
+-- Variables with their words, of a source and of its plain form at once. Each is in both, except the variables `u?`
+-- that state whether an event occurs, which are only in the plain form.
 use Rattle.std.proofs.Common.{◌≡◌, ℕ, zero, suc, ◌+◌, Bool, true, false, ℤ, List, [], ◌∷◌, take, drop, if◌then◌else◌, Result, Ok, Err, refl, sym, ap, ◌∙◌}
 use Rattle.std.proofs.Common.{subst}
 use Rattle.std.proofs.lemmas.List.{drop-take}
@@ -140,7 +140,7 @@ stored_plain (Tells event old ∷ slots) name word plain =
 
 -- ---- What stays when a word is stored
 
--- So many slots in front stand in both.
+-- The first slots, of this number, are in both.
 abbrev pub Fronts : ℕ → List Slot → Type 0
 Fronts zero slots = ⊤
 Fronts (suc count) [] = ⊤
@@ -220,7 +220,7 @@ put_stays (Same one old ∷ slots) name word plain =
     put_by (bytes_eq one.name name) (is_word_of one.ty word) one old word slots name plain refl (put_stays slots name word plain)
 put_stays (Tells event old ∷ slots) name word plain = stays_behind_told event old slots (put slots name word) (put_stays slots name word plain)
 
--- Words in front are the same in both.
+-- The first words are the same in both.
 pub same_take : (count : ℕ) (slots : List Slot) → Fronts count slots → take count (words_beside slots) ≡ take count (source_words slots)
 same_take zero slots fronts = refl
 same_take (suc count) [] fronts = refl

@@ -1,4 +1,4 @@
--- Places and connections of a plain form, by those of its system.
+-- Places and connections of a plain form, from those of its system.
 use Rattle.std.proofs.Common.{◌≡◌, ℕ, suc, ◌+◌, Bool, true, false, cond, List, [], ◌∷◌, ◌++◌, map, Option, Some, None, inl, inr, refl, ap, sym, ◌∙◌}
 use Rattle.std.proofs.Common.{◌⊎◌, arith}
 use Rattle.std.specs.Prelude.{not, ◌&&◌, slice_get}
@@ -32,7 +32,7 @@ not_same one other false is apart = is
 pub others : (one other : PortName) → (one ≡ other → ⊥) → same_port one other ≡ false
 others one other apart = not_same one other (same_port one other) refl apart
 
--- A port with a plain name is none of presence.
+-- A port with a plain name is not a `?` port.
 pub no_presence : (port other : PortName) → IsPlain port.port → same_port port (presence_port other) ≡ false
 no_presence port other name = others port (presence_port other) (λ is. name other.port (ap (λ (p : PortName). p.port) is))
 
@@ -52,7 +52,7 @@ module _ (system : System) (ranged : IsRanged system) (kept : IsWellFormed syste
   abbrev pub event : PortName → Bool
   event = is_event_output system
 
-  -- Of all outputs of the system, which are event outputs.
+  -- For each output of the system, whether it is an event output.
   abbrev pub shape : List Bool
   shape = map event (outputs_of system)
 
@@ -71,7 +71,8 @@ module _ (system : System) (ranged : IsRanged system) (kept : IsWellFormed syste
   passed : (told : Bool) (later : ℕ) → told ≡ false → after told later ≡ suc later
   passed told later is = ap (λ t. after t later) is ∙ (omega arith)
 
-  -- Of a port with the ones before it, by whether the first is it, and whether the first is an event output.
+  -- The place of a port after the ones before it, by whether the first is the port, and whether the first is
+  -- an event output.
   plain_by : (told event_first : Bool) (port first : PortName) (ports : List PortName) → IsPlain port.port → event port ≡ false
       → same_port port first ≡ told → event first ≡ event_first → place port (parts ports) ≡ plain_place (map event ports) (place port ports)
       → place port (divided event_first first ++ parts ports) ≡ plain_place (event_first ∷ map event ports) (after told (place port ports))
@@ -172,7 +173,7 @@ module _ (system : System) (ranged : IsRanged system) (kept : IsWellFormed syste
   pub place_of_presence : (port : PortName) → event port ≡ true → place_of plain (presence_port port) ≡ plain_place shape (place_of system port)
   place_of_presence port is_event = ap (place (presence_port port)) split_outputs ∙ presence_at port (outputs_of system) output_names is_event
 
-  -- Whether it is an event output stands at its place.
+  -- The shape has at the place of an output whether it is an event output.
   pub shape_at_place : (port : PortName) → IsIn (outputs_of system) port → slice_get shape (place_of system port) ≡ Some (event port)
   shape_at_place port stands = slice_get-map event (outputs_of system) (place_of system port) ∙ ap (option_map event) (found_at (outputs_of system) port stands)
 
@@ -233,7 +234,7 @@ module _ (system : System) (ranged : IsRanged system) (kept : IsWellFormed syste
       (tells_among port wires (λ other has. names other (inr has)) (λ other has. each other (inr has)))
       ∙ mapped_on (source_if port wire) (filter_map (source_if port) wires)
 
-  -- What tells of an event input comes from what tells of the outputs that it is connected to, which are event outputs.
+  -- The source of the `?` port of an event input is the `?` port of the event output that is connected to it.
   pub sources_of_presence : (port : PortName) → ((wire : Wire) → Has system.wires wire → wire.to ≡ port → event wire.from ≡ true)
       → sources_of plain (presence_port port) ≡ map presence_port (sources_of system port)
   sources_of_presence port each = tells_among port system.wires (λ wire has. plain_wire system ranged wire has) each

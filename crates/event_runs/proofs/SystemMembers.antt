@@ -1,4 +1,4 @@
--- The members of a system's plain form are those of the system, read.
+-- The members of a system's plain form are the plain forms of the system's members.
 use Rattle.std.proofs.Common.{◌≡◌, ◌-◌, ◌^◌, Bool, true, false, cond, pos, List, [], ◌∷◌, ◌++◌, map, Option, Some, None, inl, inr, refl}
 use Rattle.std.proofs.Common.{ap, sym, subst, ◌∙◌}
 use Rattle.std.specs.Prelude.{◌||◌, ◌==◌, is_none, unwrap_or}
@@ -83,7 +83,7 @@ module _ (system : System) (ranged : IsRanged system) (kept : IsWellFormed syste
       ap (input_at system) to_is ∙ input_is system apart.instances (inputs_differ system kept) instance unit port instance_has unit_is port_has in
       from_by wire port (output_at system wire.from) refl joined.from (subst (λ t. differ (output_at system wire.from) t ≡ false) to joined.same)
 
-  -- All outputs of a list are those of the system, and event outputs or not.
+  -- All outputs of a list are those of the system, with whether they are event outputs.
   abbrev Feeds : Bool → List PortName → Type 0
   Feeds told ports = (port : PortName) → Has ports port → IsIn (outputs_of system) port × (event system ranged kept port ≡ told)
 
@@ -237,7 +237,7 @@ module _ (system : System) (ranged : IsRanged system) (kept : IsWellFormed syste
       feeds = all_feeds_fit unit.events_in (λ one has. has);
     }
 
-    -- Which of its outputs are event outputs.
+    -- For each of its outputs, whether it is an event output.
     abbrev told : PortName → Bool
     told port = event system ranged kept port
 

@@ -1,4 +1,4 @@
--- The trace of a system's plain form, read, is that of the system, which has no other.
+-- The trace of a system's plain form, read as signals, is that of the system, which has no other.
 use Rattle.std.proofs.Common.{◌≡◌, ℕ, ℤ, List, [], ◌∷◌, map, length, Option, refl, ap, sym, subst, ◌∙◌, map-id}
 use Rattle.std.specs.List.{AllByRecursion, flat_map}
 use Rattle.std.specs.Option.{unwrap_or}

@@ -1,5 +1,4 @@
--- The two plain expressions of an event output tell in every environment of an event by true and its word, or by false and a
--- zero.
+-- The two plain expressions of an event output give in every environment true and a word, or false and a zero.
 use Rattle.std.proofs.Common.{◌≡◌, ◌⊎◌, Bool, true, false, if◌then◌else◌, Ok, Err, inl, inr, refl, sym, ap, ◌∙◌, subst}
 use Rattle.std.specs.Prelude.{⊤}
 use Rattle.fixed_words.specs.declared.types.Ty.{Ty}

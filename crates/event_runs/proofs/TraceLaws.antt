@@ -1,4 +1,4 @@
--- The trace of a plain form, read, is that of the source.
+-- The trace of a plain form, read as signals, is that of the source.
 use Rattle.std.proofs.Common.{◌≡◌, ℕ, suc, ◌+◌, ◌==◌, Bool, true, false, ℤ, List, [], ◌∷◌, map, length, if◌then◌else◌, Option, Some, None, Result, Ok, Err}
 use Rattle.std.proofs.Common.{refl, sym, ap, ◌∙◌, subst}
 use Rattle.std.specs.Prelude.{zip, ⊤, is_some, nat_lt, ◌&&◌}
@@ -41,7 +41,7 @@ initial_states : (shape : _) (members : List EventMember)
 initial_states shape [] = refl
 initial_states shape (one ∷ members) = ap (λ rest. initial one.member.component ∷ rest) (initial_states shape members)
 
--- ---- Ends that both forms have alike
+-- ---- Endings that are the same in both forms
 
 module _ (members : List EventMember) where
   abbrev Keeps : Option Ending → Type 0
@@ -89,7 +89,7 @@ module _ (members : List EventMember) where
   next_by_end None at keeps = refl
   next_by_end (Some ending) at keeps = ap ends keeps
 
-  -- Without a port fault no end is of an output.
+  -- Without a port fault, no ending names an output.
   next_keeps : (pace : Pace) (at : Position) (limits : Limits) (p a : ℕ) (trial redo : Steps)
       → read_next (next_of pace at None limits p a trial redo) ≡ next_of pace at None limits p a trial redo
   next_keeps pace at limits p a trial redo =

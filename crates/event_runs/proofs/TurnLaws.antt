@@ -1,4 +1,4 @@
--- The successor is by what members give.
+-- The successor depends only on the results of members' calls.
 use Rattle.std.proofs.Common.{◌≡◌, ℕ, ◌+◌, List, [], ◌∷◌, map, Option, Some, None, Result, Ok, Err, refl, ap, ◌∙◌}
 use Rattle.std.specs.Prelude.{zip}
 use Rattle.std.specs.List.{filter_map, enumerate_from, cons_option}
@@ -46,7 +46,7 @@ redos_are t h from (member ∷ members) (step ∷ steps) =
     ap (λ first. first ∷ map (redo_end_of t h) (enumerate_from (from + 1) (zip members steps))) (redo_is t h from member step)
     ∙ ap (λ rest. redo_with t h (from, (member.factor, step)) ∷ rest) (redos_are t h (from + 1) members steps)
 
--- ---- Where the same is given
+-- ---- Where the results are the same
 
 pub next_same : (pace : Pace) (at : Position) (one other : Offers) → one.fault ≡ other.fault → one.limits ≡ other.limits
     → ((h : ℕ) → one.steps h ≡ other.steps h) → next_by pace at one ≡ next_by pace at other

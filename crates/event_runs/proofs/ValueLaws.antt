@@ -28,7 +28,7 @@ use Rattle.list_laws.proofs.Lists.{each_part}
 use Rattle.event_runs.specs.Events.{Occurring, node_in, value_in}
 use Rattle.event_runs.specs.Laws.{Speaks, Shows}
 
--- ---- What the parts of an expression speak of
+-- ---- What the parts of an expression use
 
 pub all_halves : {A : Type 0} (test : A → Bool) (one other : List A) → list_all test (one ++ other) ≡ true
     → (list_all test one ≡ true) × (list_all test other ≡ true)
@@ -38,7 +38,7 @@ all_halves test (first ∷ one) other all =
     let rest = all_halves test one other both.1 in
     (rw (both.0, rest.0) refl, rest.1)
 
--- From what is said in two parts.
+-- From what is known of two parts.
 pub record Parts (events names asked names' asked' : List (List ℕ)) : Type 0 where
   pub names_one : AllByRecursion IsWord names
   pub asked_one : are_among events asked ≡ true

@@ -1,4 +1,5 @@
--- Port assignment of a system as it is written: which signal each output has for given states, and which outputs have none.
+-- Port assignment of a system as it is written: which signal each output has for given states, and which outputs have
+-- none.
 use Rattle.std.specs.List.{flat_map}
 use Rattle.std.specs.Option.{option_map, option_and_then}
 use Rattle.std.specs.Prelude.{ℕ, ℤ, List, ◌++◌, map, if◌then◌else◌, Option, Some, None, Result, Ok, ◌≡◌, zip, slice_get}
@@ -16,12 +17,12 @@ use Rattle.unit_tree.specs.declared.unit.Output.{Output}
 use Rattle.unit_tree.specs.declared.unit.Unit.{Unit}
 use Rattle.event_runs.specs.Events.{Signal, Seen, word_seen, get_in, get_event, Occurs, Absent}
 
--- At each place a signal, or nothing where the output is undefined. A plain output that is defined always has a word. Places
--- count all outputs, by instance and then by declaration, where event outputs come after the plain ones.
+-- At each place a signal, or nothing where the output is undefined. A plain output that is defined always has a word.
+-- Places count all outputs, by instance and then by declaration, with event outputs after the plain ones.
 abbrev pub Signals : Type 0
 Signals = List (Option Signal)
 
--- A member with the places of the event outputs that are connected to its event inputs, where one is.
+-- A member, with the place of the event output that is connected to each of its event inputs, where one is.
 pub record EventMember : Type 0 where
   pub member : Member
   pub feeds : List (Option ℕ)
@@ -42,7 +43,7 @@ abbrev pub get_out : Component → List ℤ → Seen → Out → Result Signal F
 get_out component state seen (Plain output) = get_in component state seen output >>= λ word. Ok (Occurs word)
 get_out component state seen (Event event) = get_event component state seen event
 
--- ---- What an output sees
+-- ---- What an output reads
 
 abbrev pub signal_in : Signals → ℕ → Option Signal
 signal_in signals place = option_and_then (λ signal. signal) (slice_get signals place)
@@ -57,7 +58,7 @@ abbrev pub signal_from : Signals → Option ℕ → Option Signal
 signal_from signals None = Some Absent
 signal_from signals (Some place) = signal_in signals place
 
--- An input that is not needed shows its start word, and an event input that is not, that no event occurs.
+-- An input that is not needed has its start word, and an event input that is not needed is absent.
 abbrev pub word_needed : Signals → List (List ℕ) → Input × InputSource → Option ℤ
 word_needed signals needs (input, source) =
     if is_among needs input.name then word_from signals source else Some (start_word input.ty input.start)
@@ -79,7 +80,7 @@ seen_for signals needs one =
 abbrev pub EventStanding : Type 0
 EventStanding = EventMember × List ℤ
 
--- The signal of an output: it is undefined where an input in its needs is, and where get faults.
+-- The signal of an output. It is undefined where an input in its needs is, and where get has a fault.
 abbrev pub signal_of : Signals → EventStanding → Out → Option Signal
 signal_of signals (one, state) out =
     option_and_then result_ok (option_map (λ seen. get_out one.member.component state seen out) (seen_for signals (needs_in out) one))
@@ -90,6 +91,6 @@ signals_at signals standing = map (signal_of signals standing) (outs_of standing
 abbrev pub event_sides : List EventMember → List (List ℤ) → Signals → Signals
 event_sides members states signals = flat_map (signals_at signals) (zip members states)
 
--- The port assignment of the source for the states: each output has what its equation says.
+-- The port assignment of the source for the states: each output has the signal that its equation gives.
 abbrev pub IsEventAssignment : List EventMember → List (List ℤ) → Signals → Type 0
 IsEventAssignment members states signals = signals ≡ event_sides members states signals

@@ -1,4 +1,4 @@
--- What is run of a system as it is written, and its trace: each event port has a word or is absent.
+-- What is run for a system as it is written, and its trace: each event port has a word or is absent.
 use Rattle.std.specs.List.{filter_map}
 use Rattle.std.specs.Option.{option_map, unwrap_or}
 use Rattle.std.specs.Prelude.{ℕ, List, [], ◌∷◌, map, Option, Some, None, ◌≡◌, length}
@@ -37,7 +37,7 @@ event_members_of system =
     (λ instance. option_map (with_feeds system instance) (member_with system instance (unit_of_instance system instance)))
     system.instances
 
--- Where its run ends, its bounds, and how many ticks of the system a local tick of each member is.
+-- When its run ends, its bounds, and how many ticks of the system a local tick of each member is.
 abbrev pub event_pace : System → List EventMember → Pace
 event_pace system members = record {
   stop = stop_of system;
@@ -52,20 +52,21 @@ event_run_of system = record { members = event_members_of system; pace = event_p
 
 -- ---- Its trace
 
--- The point at which a trace ends: that of its last stand. Without stands it is the first point of time.
+-- The point at which a trace ends: that of its last stand. Without stands it is the first point.
 abbrev pub last_event_point : List EventStand → Point
 last_event_point [] = record { t = 0; n = 0 }
 last_event_point (stand ∷ []) = stand.at.point
 last_event_point (stand ∷ later ∷ others) = last_event_point (later ∷ others)
 
--- The rows are those of a trace of the system, `last` is the point at which it ends, and it ends so.
+-- The rows are those of a trace of the system, `last` is the point at which it ends, and `ending` is its
+-- end.
 pub record IsEventTraceOf (system : System) (rows : List EventRow) (last : Point) (ending : Ending) : Type 0 where
   pub stands : List EventStand
   pub trace : IsEventTrace (event_run_of system) stands ending
   pub rows_are : rows ≡ event_rows_of (event_run_of system) stands
   pub last_is : last ≡ last_event_point stands
 
--- There is one list of rows, one last point and one end of the system, and no other.
+-- The system has exactly one list of rows, one last point and one ending.
 pub record HasOneEventTraceOf (system : System) : Type 0 where
   pub rows : List EventRow
   pub last : Point

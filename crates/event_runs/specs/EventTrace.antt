@@ -18,7 +18,7 @@ use Rattle.event_runs.specs.EventPorts.{IsEventAssignment}
 use Rattle.event_runs.specs.Events.{Signal, Seen, max_in, step_in, Absent}
 use Rattle.event_runs.specs.Offers.{Pace, Offers, next_by}
 
--- What is run of a source.
+-- What is run for a source.
 pub record EventRun : Type 0 where
   pub members : List EventMember
   pub pace : Pace
@@ -36,9 +36,10 @@ event_faults_at signals (instance, standing) = map (event_fault_at signals insta
 abbrev pub event_port_fault : List EventMember → List (List ℤ) → Signals → Option Ending
 event_port_fault members states signals = first_some (flat_map (event_faults_at signals) (enumerate_from 0 (zip members states)))
 
--- ---- What members give
+-- ---- The results of members' calls
 
--- What a member sees. An undefined output, which ends a run before this counts, shows 0, or that no event occurs.
+-- What a member reads. An undefined output counts as 0 or as absent here; such an output ends the run before this
+-- matters.
 abbrev pub seen_at : Signals → EventMember → Seen
 seen_at signals one = record {
   words = map (λ source. unwrap_or (word_from signals source) (pos 0)) one.member.sources;

@@ -1,4 +1,4 @@
--- Laws of events: what a system means as it is written is what its plain form means, read.
+-- Laws of events: the meaning of a system as it is written is that of its plain form, read as signals.
 use Rattle.std.specs.List.{AllByRecursion, AllZip, flat_map, list_all}
 use Rattle.std.specs.Option.{option_map, IfSome}
 use Rattle.std.specs.Prelude.{ℕ, Bool, true, false, ℤ, pos, List, [], ◌∷◌, map, Option, Some, None, Result, Ok, ◌≡◌, length, slice_get, ⊤, ◌⊎◌, is_some, Err}
@@ -39,12 +39,13 @@ use Rattle.event_runs.specs.Readings.{HasShape, system_shape, read_rows, read_en
 
 -- ---- Expressions
 
--- Names are words, and `present` asks of these event inputs.
+-- Names are words, and each name in `present` is one of these event inputs.
 pub record Speaks (events : List (List ℕ)) (value : Expr) : Type 0 where
   pub names : AllByRecursion IsWord (names_in value)
   pub asked : are_among events (events_asked_in value) ≡ true
 
--- Two environments at one time: where events occur at some event inputs, and where plain variables tell of them.
+-- Two environments at one time: one where events occur at some event inputs, and one where plain variables state by
+-- true or false whether they do.
 pub record Shows (occurring : Occurring) (events : List (List ℕ)) (env plain : Environment) : Type 0 where
   pub names : (name : List ℕ) → IsWord name → value_of_name plain.variables plain.words name ≡ value_of_name env.variables env.words name
   pub tells : (name : List ℕ) → is_among events name ≡ true → value_of_name plain.variables plain.words (presence_name name) ≡ truth (occurring name)
@@ -60,8 +61,9 @@ PlainExpressionsMeanTheSame =
 abbrev pub zero_value : Ty → Value
 zero_value ty = record { kind = kind_of ty; word = pos 0 }
 
--- What the two plain expressions of an event output give, by what its own one does: 1 and the word where an event occurs, 0
--- and 0 where none does. A fault is that of the word, and before it the first one may have it too or tell that an event occurs.
+-- The results of the two plain expressions of an event output, by the result of its own expression. Where an event
+-- occurs they are true and the word; where none does, false and 0. A fault is that of the word; the first expression
+-- then has the same fault or is true.
 abbrev pub AreTwo : Ty → Result (Option Value) Fault → Result Value Fault → Result Value Fault → Type 0
 AreTwo ty (Ok None) tells word = (tells ≡ Ok (truth false)) × (word ≡ Ok (zero_value ty))
 AreTwo ty (Ok (Some value)) tells word = (tells ≡ Ok (truth true)) × (word ≡ Ok value)
@@ -73,7 +75,7 @@ EventsAreTwo =
     → AreTwo ty (event_in occurring value env) (value_of (plain_expression (presence_of value)) plain)
     (value_of (plain_expression (word_expression_of ty value)) plain)
 
--- Where no event occurs, a value is that of an environment without events.
+-- Where no event occurs, the value is that in an environment without events.
 abbrev pub NoEventsMeanTheSame : Type 0
 NoEventsMeanTheSame = (env : Environment) (value : Expr) → value_in none_occurs value env ≡ value_of value env
 
@@ -83,7 +85,7 @@ abbrev pub asks_of : List (List ℕ) → Option Expr → Type 0
 asks_of events None = ⊤
 asks_of events (Some value) = are_among events (events_asked_in value) ≡ true
 
--- The same of a line.
+-- The same for a line.
 pub record FormSpeaks (events : List (List ℕ)) (line : LineForm) : Type 0 where
   pub names : AllByRecursion IsWord (names_on line)
   pub asked : asks_of events (expression_on line)
@@ -91,7 +93,8 @@ pub record FormSpeaks (events : List (List ℕ)) (line : LineForm) : Type 0 wher
 abbrev pub LineSpeaks : List (List ℕ) → Line → Type 0
 LineSpeaks events some = AllByRecursion (FormSpeaks events) (line_forms some)
 
--- What is said in a unit: its variables have words for names, and its expressions speak of them and of its event inputs.
+-- The content of a unit: the names of its variables and in its expressions are words, and each name in `present` is one
+-- of its event inputs.
 pub record IsSaid (unit : Unit) : Type 0 where
   pub variables : AllByRecursion (λ variable. IsWord variable.name) (all_variables_of unit)
   pub outputs : AllByRecursion (λ output. Speaks (event_input_names unit) output.value) unit.outputs
@@ -106,18 +109,18 @@ pub record Fits (component : Component) (state : List ℤ) (seen : Seen) : Type 
   pub words : length seen.words ≡ length component.unit.inputs
   pub signals : length seen.signals ≡ length component.unit.events_in
 
--- What get gives of the two plain outputs of an event output.
+-- The results of get for the two plain outputs of an event output.
 abbrev pub AreTwoGets : Result Signal Fault → Outcome → Outcome → Type 0
 AreTwoGets (Ok Absent) tells word = (tells ≡ Ok (pos 0)) × (word ≡ Ok (pos 0))
 AreTwoGets (Ok (Occurs w)) tells word = (tells ≡ Ok (pos 1)) × (word ≡ Ok w)
 AreTwoGets (Err fault) tells word = ((tells ≡ Err fault) ⊎ (tells ≡ Ok (pos 1))) × (word ≡ Err fault)
 
--- Of a list of two, the relation of its elements.
+-- In a list of two, the relation between its elements.
 abbrev pub AllPairs : {A : Type 0} → (A → A → Type 0) → List A → Type 0
 AllPairs R (one ∷ other ∷ []) = R one other
 AllPairs R _ = ⊥
 
--- The calls of a component are those of its plain form, on the words that this has for what the component sees.
+-- The calls of a component are those of its plain form, on the plain words of what the component reads.
 pub record HasPlainCalls (component : Component) (state : List ℤ) (seen : Seen) : Type 0 where
   pub get : AllByRecursion
       (λ output. get_of (plain_component component) state (plain_words seen) (plain_output component.unit output)
@@ -134,7 +137,7 @@ ComponentsHavePlainCalls =
 
 -- ---- Port assignments
 
--- Two ports of an event tell of it by 1 and its word, or by 0 and 0, where both are defined.
+-- The two ports of an event output are 1 and its word, or 0 and 0, where both are defined.
 abbrev pub IsTidyPair : Option ℤ → Option ℤ → Type 0
 IsTidyPair (Some tells) (Some word) = (tells ≡ pos 1) ⊎ ((tells ≡ pos 0) × (word ≡ pos 0))
 IsTidyPair _ _ = ⊤
@@ -145,8 +148,8 @@ AreTidy (false ∷ shape) (word ∷ ports) = AreTidy shape ports
 AreTidy (true ∷ shape) (tells ∷ word ∷ ports) = IsTidyPair tells word × AreTidy shape ports
 AreTidy _ _ = ⊥
 
--- A plain input is connected to a plain output, and an event input to an event output; names are words; and there is a source
--- for each input.
+-- A plain input is connected to a plain output, and an event input to an event output. Names are words. There is a
+-- source for each input.
 abbrev pub SourceFits : List Bool → InputSource → Type 0
 SourceFits shape (Start word) = ⊤
 SourceFits shape (AtPlace place) = slice_get shape place ≡ Some false
@@ -171,8 +174,8 @@ IsShaped (false ∷ shape) (Some Absent ∷ signals) = ⊥
 IsShaped (_ ∷ shape) (signal ∷ signals) = IsShaped shape signals
 IsShaped _ _ = ⊥
 
--- Members of a source as they are run in the plain form: one for one, with the sources of their inputs by the places that the
--- outputs have there.
+-- Members of a source as they are run in the plain form: one for one. The sources of their inputs are given by the
+-- places that the outputs have there.
 pub record IsPlainRun (members : List EventMember) (run : Composition) : Type 0 where
   pub members_are : run.members ≡ map (plain_member (flat_map shape_of members)) members
   pub wired : AllByRecursion (IsWired (flat_map shape_of members)) members
@@ -187,7 +190,7 @@ AssignmentsAreRead =
     → IsAssignment run states ports
     → AreTidy (flat_map shape_of members) ports × IsEventAssignment members states (read_ports (flat_map shape_of members) ports)
 
--- And each of the source's is one of those that are read.
+-- Conversely, each port assignment of the source is one of the plain form, read as signals.
 pub record IsReadOf (members : List EventMember) (run : Composition) (states : List (List ℤ)) (signals : Signals) : Type 0 where
   pub ports : Ports
   pub assignment : IsAssignment run states ports
@@ -198,7 +201,7 @@ EventAssignmentsAreRead =
     (members : List EventMember) (run : Composition) (states : List (List ℤ)) (signals : Signals) → IsPlainRun members run → StatesFit members states
     → IsEventAssignment members states signals → IsReadOf members run states signals
 
--- So where the places of the plain form have an order, the source has exactly one port assignment.
+-- So the source has exactly one port assignment, if the places of the plain form have an order.
 pub record HasOneEventAssignment (members : List EventMember) (states : List (List ℤ)) : Type 0 where
   pub signals : Signals
   pub is_assignment : IsEventAssignment members states signals
@@ -211,17 +214,17 @@ EventAssignmentsAreUnique =
 
 -- ---- How a run goes on
 
--- The successor is by what members give.
+-- The successor depends only on the results of the members' calls.
 abbrev pub SuccessorsAreByOffers : Type 0
 SuccessorsAreByOffers = (run : Composition) (at : Position) (ports : Ports) → successor run at ports ≡ next_by (pace_of run) at (offers_of run at ports)
 
--- And it is the same where they give the same.
+-- It is the same where the results are the same.
 abbrev pub SameOffersLeadOn : Type 0
 SameOffersLeadOn =
     (pace : Pace) (at : Position) (one other : Offers) → one.fault ≡ other.fault → one.limits ≡ other.limits → ((h : ℕ) → one.steps h ≡ other.steps h)
     → next_by pace at one ≡ next_by pace at other
 
--- Where no output is undefined, members give in the source what they give in the plain form.
+-- Where no output is undefined, the results of the members' calls in the source are those in the plain form.
 pub record GiveTheSame (members : List EventMember) (run : Composition) (at : Position) (ports : Ports) : Type 0 where
   pub limits : (offers_of run at ports).limits ≡ (event_offers members at (read_ports (flat_map shape_of members) ports)).limits
   pub steps : (h : ℕ) → (offers_of run at ports).steps h ≡ (event_offers members at (read_ports (flat_map shape_of members) ports)).steps h
@@ -231,7 +234,7 @@ MembersGiveTheSame =
     (members : List EventMember) (run : Composition) (at : Position) (ports : Ports) → IsPlainRun members run → StatesFit members at.states
     → AreTidy (flat_map shape_of members) ports → list_all is_some ports ≡ true → GiveTheSame members run at ports
 
--- The port fault of the source is that of the plain form, where the two ports of an event output are one.
+-- The port fault of the source is that of the plain form, where the two ports of an event output count as one.
 abbrev pub FaultsAreRead : Type 0
 FaultsAreRead =
     (members : List EventMember) (run : Composition) (states : List (List ℤ)) (ports : Ports) → IsPlainRun members run → StatesFit members states
@@ -240,14 +243,14 @@ FaultsAreRead =
 
 -- ---- Traces
 
--- The trace of a plain form, read, is that of the source: the same positions, and the same end.
+-- The trace of a plain form, read as signals, is that of the source: the same positions, and the same ending.
 abbrev pub TracesAreRead : Type 0
 TracesAreRead =
     (members : List EventMember) (run : Composition) (order : List ℕ) (stands : List Stand) (ending : Ending) → IsPlainRun members run → AreMembers run
     → IsPlaceOrder run order → IsTrace run stands ending
     → IsEventTrace (record { members = members; pace = pace_of run }) (map (read_stand members) stands) (read_ending members ending)
 
--- So the source has exactly one trace where the places of its plain form have an order.
+-- So the source has exactly one trace, if the places of its plain form have an order.
 pub record HasOneEventTrace (run : EventRun) : Type 0 where
   pub stands : List EventStand
   pub ending : Ending
@@ -259,7 +262,7 @@ SourcesHaveOneTrace =
     (members : List EventMember) (run : Composition) (order : List ℕ) → IsPlainRun members run → AreMembers run → IsPlaceOrder run order
     → HasOneEventTrace (record { members = members; pace = pace_of run })
 
--- The rows of a trace of the plain form, read, are those of the source.
+-- The rows of a trace of the plain form, read as signals, are those of the source.
 abbrev pub RowsAreRead : Type 0
 RowsAreRead =
     (members : List EventMember) (run : Composition) (order : List ℕ) (stands : List Stand) (ending : Ending) → IsPlainRun members run → AreMembers run
@@ -268,7 +271,7 @@ RowsAreRead =
 
 -- ---- Systems
 
--- The members of the plain form are those of the system, read.
+-- The members of the plain form are the plain forms of the system's members.
 abbrev pub MembersArePlain : Type 0
 MembersArePlain = (system : System) → IsRanged system → IsWellFormed system → IsPlainRun (event_members_of system) (run_of system)
 
@@ -278,14 +281,15 @@ SystemsHaveOneEventAssignment =
     (system : System) → IsRanged system → IsWellFormed system → HasNoCycle system
     → (states : List (List ℤ)) → StatesFit (event_members_of system) states → HasOneEventAssignment (event_members_of system) states
 
--- The trace of the plain form, read, is that of the system.
+-- The trace of the plain form, read as signals, is that of the system.
 abbrev pub PlainFormsTellTheTrace : Type 0
 PlainFormsTellTheTrace =
     (system : System) → IsRanged system → IsWellFormed system → HasNoCycle system
     → (rows : List Row) (last : Point) (ending : Ending) → IsTraceOf system rows last ending
     → IsEventTraceOf system (read_rows system rows) last (read_end system ending)
 
--- Each row of the plain form's trace has a word for each plain output, and for each event output 1 and its word, or 0 and 0.
+-- Each row of the plain form's trace has one word for each plain output, and for each event output 1 and its word, or 0
+-- and 0.
 abbrev pub RowsHaveShape : Type 0
 RowsHaveShape =
     (system : System) → IsRanged system → IsWellFormed system → HasNoCycle system

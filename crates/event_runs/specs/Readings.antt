@@ -1,5 +1,5 @@
--- How the plain form of a system, which is what is run, is read: each event port of the system is two plain ports there. The laws
--- speak of it, and no promise of the program does.
+-- How the plain form of a system, which is what is run, is read as the system: each event port of the system is two
+-- plain ports there. The laws use this; no promise of the program does.
 use Rattle.std.specs.List.{flat_map}
 use Rattle.std.specs.Option.{option_map, unwrap_or}
 use Rattle.std.specs.Ordering.{int_eq}
@@ -25,7 +25,7 @@ use Rattle.event_runs.specs.Offers.{Pace, Offers}
 
 -- ---- Components
 
--- The plain form of a component, and what it sees of its inputs.
+-- The plain form of a component, and what it reads at its inputs.
 abbrev pub plain_component : Component → Component
 plain_component component = record component { unit = plain_unit component.unit }
 
@@ -43,18 +43,18 @@ abbrev pub is_event : Out → Bool
 is_event (Plain output) = false
 is_event (Event event) = true
 
--- Of each output of a unit, whether it is an event output; and of all of a member.
+-- For each output of a unit, whether it is an event output; and the same for all outputs of a member.
 abbrev pub event_shape : Unit → List Bool
 event_shape unit = map is_event (outs_of unit)
 
 abbrev pub shape_of : EventMember → List Bool
 shape_of one = event_shape one.member.component.unit
 
--- What two words tell: an event with the second where the first is not 0.
+-- The signal that two words stand for: an event with the second word if the first is not 0.
 abbrev pub signal_told : ℤ → ℤ → Signal
 signal_told tells word = if int_eq tells (pos 0) then Absent else Occurs word
 
--- The same of two ports. Where one is undefined, so is the event output.
+-- The same for two ports. Where one is undefined, so is the event output.
 abbrev pub read_pair : Option ℤ → Option ℤ → Option Signal
 read_pair (Some tells) (Some word) = Some (signal_told tells word)
 read_pair _ _ = None
@@ -66,7 +66,7 @@ read_ports (false ∷ shape) (word ∷ ports) = option_map Occurs word ∷ read_
 read_ports (true ∷ shape) (tells ∷ word ∷ ports) = read_pair tells word ∷ read_ports shape ports
 read_ports (_ ∷ shape) _ = []
 
--- The place in the plain form of an output, or of the first of the two that it becomes.
+-- The place of an output in the plain form, or of the first of the two that it becomes.
 abbrev pub plain_place : List Bool → ℕ → ℕ
 plain_place shape zero = zero
 plain_place [] (suc place) = zero
@@ -88,7 +88,7 @@ plain_member shape one = record {
   sources = map (plain_source shape) one.member.sources ++ flat_map (plain_feed shape) one.feeds;
 }
 
--- ---- Positions and ends
+-- ---- Positions and endings
 
 abbrev pub pace_of : Composition → Pace
 pace_of run = record {
@@ -107,7 +107,8 @@ offers_of run at ports =
 abbrev pub read_stand : List EventMember → Stand → EventStand
 read_stand members stand = record { at = stand.at; signals = read_ports (flat_map shape_of members) stand.ports }
 
--- The number of an output of the plain form, as that of the source: the two of an event output are one.
+-- The number of an output in the source, from its number in the plain form, where the two of an event output count as
+-- one.
 abbrev pub output_read : List Bool → ℕ → ℕ
 output_read [] number = number
 output_read (false ∷ shape) zero = zero
@@ -119,12 +120,12 @@ output_read (true ∷ shape) (suc (suc number)) = suc (output_read shape number)
 abbrev pub shape_at : List EventMember → ℕ → List Bool
 shape_at members instance = unwrap_or (option_map shape_of (slice_get members instance)) []
 
--- A place of an instance in the plain form, as that of the source, by the shape of its outputs.
+-- The place of a fault in the source, from its place in the plain form, by the shape of the instance's outputs.
 abbrev pub read_place : List Bool → Place → Place
 read_place shape (place.Output number) = place.Output (output_read shape number)
 read_place shape other = other
 
--- An end of the plain form, as that of the source, by the shapes of all instances.
+-- An ending of the source, from that of the plain form, by the shapes of all instances.
 abbrev pub read_ending_by : (ℕ → List Bool) → Ending → Ending
 read_ending_by shapes (UnitFault instance where_ fault) = UnitFault instance (read_place (shapes instance) where_) fault
 read_ending_by shapes ending = ending
@@ -143,8 +144,8 @@ read_words _ _ = []
 abbrev pub read_row : List EventMember → Row → EventRow
 read_row members row = record { point = row.point; signals = read_words (flat_map shape_of members) row.words }
 
--- The words of a row of the plain form: one for each plain output, and two for each event output, which are 1 and any word, or 0
--- and 0.
+-- The words of a row of the plain form: one for each plain output, and two for each event output, which are 1 and any
+-- word, or 0 and 0.
 abbrev pub HasShape : List Bool → List ℤ → Type 0
 HasShape [] [] = ⊤
 HasShape (false ∷ shape) (word ∷ words) = HasShape shape words
@@ -153,11 +154,11 @@ HasShape _ _ = ⊥
 
 -- ---- Systems
 
--- Of all outputs of a system, which are event outputs.
+-- For each output of a system, whether it is an event output.
 abbrev pub system_shape : System → List Bool
 system_shape system = flat_map shape_of (event_members_of system)
 
--- The rows of a system's plain form, read as those of the system, and its end.
+-- The rows and the ending of a system's plain form, read as those of the system.
 abbrev pub read_rows : System → List Row → List EventRow
 read_rows system rows = map (read_row (event_members_of system)) rows
 

@@ -1,4 +1,4 @@
--- The floor of a quotient by the signs of both.
+-- The floor of a quotient, by the signs of dividend and divisor.
 use Rattle.std.proofs.Common.{◌≡◌, ◌≢◌, ℕ, false, ltb, zero, suc, ◌+◌, ◌*◌, ◌/◌, if◌then◌else◌, refl, sym, ap, ◌∙◌, arith, ℤ, pos, negsuc, ◌*ℤ◌, neg_ℤ}
 use Rattle.std.specs.Int.{int_div_euclid, is_negative}
 use Rattle.std.proofs.Math.Nat.{mul-div-mul_right, div-div-eq-div-mul}
@@ -36,7 +36,7 @@ by_positive d b = cancels d (suc b) b
 pub by_negative : (d : ℤ) (b : ℕ) → floor_quotient d (negsuc b) ≡ int_div_euclid (neg_ℤ d) (pos (suc b))
 by_negative d b = ap (λ n. int_div_euclid n (pos (suc b * suc b))) (signs_turn d b) ∙ cancels (neg_ℤ d) (suc b) b
 
--- by cases as the code has them: where the divisor is negative, both signs are turned
+-- by the cases of the code: where the divisor is negative, both signs are changed
 pub by_sign : (d v : ℤ) → v ≢ pos 0 → floor_quotient d v ≡ (if is_negative v then int_div_euclid (neg_ℤ d) (neg_ℤ v) else int_div_euclid d v)
 by_sign d (pos zero) some = absurd (some refl)
 by_sign d (pos (suc b)) some = rw (never_below_zero (suc b)) (by_positive d b)

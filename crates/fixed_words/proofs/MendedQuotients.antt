@@ -1,4 +1,4 @@
--- A quotient that was rounded towards zero, and what it leaves, mended to the floor.
+-- A quotient that was rounded towards zero and its remainder, corrected to the floor.
 use Rattle.std.proofs.Common.{◌≡◌, ◌≢◌, ℕ, Bool, true, false, zero, suc, ◌+◌, ◌-◌, ◌*◌, ◌/◌, ◌%◌, ◌⊎◌, inl, inr, refl, sym, ap, ◌∙◌, arith, ℤ, pos, negsuc}
 use Rattle.std.proofs.Common.{neg_ℤ, ◌+ℤ◌, ◌-ℤ◌, w64, SFits, to_z, of_z}
 use Rattle.std.specs.Int.RustNames.{int_div, int_rem}
@@ -14,7 +14,7 @@ use Rattle.fixed_words.specs.Operations.{floor_quotient}
 use Rattle.fixed_words.proofs.Floors.{by_positive, by_negative, never_below_zero}
 use Rattle.fixed_words.proofs.Remainders.{positive_by_positive, negative_by_positive, positive_by_negative, negative_by_negative, nothing_by_negative}
 
--- One more than a number: what is left by the divisor grows by one, or all is taken and the quotient grows.
+-- The next dividend: either its remainder is one more, or its remainder is 0 and its quotient is one more.
 pub record RestGrows (a b : ℕ) : Type 0 where
   pub quotient : suc a / suc b ≡ a / suc b
   pub left : suc a % suc b ≡ suc (a % suc b)
@@ -44,17 +44,17 @@ one_more a b =
           })
     ]
 
--- What is left has the divisor's sign, zero counting as positive.
+-- The remainder has the divisor's sign, where zero counts as positive.
 abbrev pub is_of_sign : ℤ → ℤ → Bool
 is_of_sign d v = beq (is_negative (int_rem d v)) (is_negative v)
 
--- The quotient rounded towards zero, and what it leaves, are those of the floor.
+-- The quotient rounded towards zero and its remainder are those of the floor.
 pub record IsAtFloor (d v : ℤ) : Type 0 where
   pub floor : int_div d v ≡ floor_quotient d v
   pub rest : int_rem d v ≡ left_over d v
   pub sign : (int_rem d v ≡ pos 0) ⊎ (is_of_sign d v ≡ true)
 
--- The quotient is one more than the floor, and what it leaves is less by the divisor.
+-- The quotient rounded towards zero is one more than the floor, and its remainder is less by the divisor.
 pub record IsAboveFloor (d v : ℤ) : Type 0 where
   pub floor : int_div d v -ℤ pos 1 ≡ floor_quotient d v
   pub rest : int_rem d v +ℤ v ≡ left_over d v
@@ -136,7 +136,7 @@ mended (pos zero) (negsuc b) some = inl (nothing b)
 mended (pos (suc a)) (negsuc b) some = elim (one_more a b) [ inl room ↦ inr (above_room a b room) | inr full ↦ inl (above_full a b full) ]
 mended (negsuc a) (negsuc b) some = inl (negatives a b)
 
--- where something is left that has not the divisor's sign
+-- where there is a remainder that has not the divisor's sign
 pub above_floor : (d v : ℤ) → v ≢ pos 0 → of_z w64 (int_rem d v) ≢ 0 → not (is_of_sign d v) ≡ true → IsAboveFloor d v
 above_floor d v some left apart =
     elim (mended d v some) [
@@ -144,12 +144,12 @@ above_floor d v some left apart =
       | inr above ↦ above
     ]
 
--- where what is left has the divisor's sign
+-- where the remainder has the divisor's sign
 pub at_floor_by_sign : (d v : ℤ) → v ≢ pos 0 → not (is_of_sign d v) ≡ false → IsAtFloor d v
 at_floor_by_sign d v some same =
     elim (mended d v some) [ inl at ↦ at | inr above ↦ let turned = ap not above.sign in absurd (cc) ]
 
--- where nothing is left
+-- where there is no remainder
 pub at_floor_exactly : (d v : ℤ) → v ≢ pos 0 → SFits w64 (int_rem d v) → of_z w64 (int_rem d v) ≡ 0 → IsAtFloor d v
 at_floor_exactly d v some fits none =
     elim (mended d v some) [ inl at ↦ at | inr above ↦ absurd (above.some (sym (to_z-of_z w64 (int_rem d v) fits) ∙ ap (to_z w64) none)) ]

@@ -1,4 +1,4 @@
--- Numbers as text: where their digits and their point stand, and what reading them digit by digit gives.
+-- Numbers as text: where their digits and their point are, and what reading them digit by digit gives.
 use Rattle.std.proofs.Common.{zero, true, replicate, ◌%◌, ◌≡◌, ℕ, suc, ◌+◌, ◌-◌, ◌*◌, ◌^◌, ◌<◌, ◌≤◌, ◌==◌, not, inl, inr, nat_lt, unwrap_or, List, [], ◌∷◌}
 use Rattle.std.proofs.Common.{◌++◌, length, get_or, take, drop, IsTrue, Option, Some, None, if◌then◌else◌, refl, sym, ap, ◌∙◌, subst, arith}
 use Rattle.std.specs.List.{list_all, position_or_len}
@@ -27,7 +27,7 @@ number_of_digits-cons before byte bytes =
     let grows = number_from-ge (10 * before + (byte - 48)) bytes in
     grind (arith, nat_tests)
 
--- what a number that is not too large says of its digits
+-- what is known of the digits of a number that is not too large
 pub record IsRead (before : ℕ) (bytes : List ℕ) (number : ℕ) : Type 0 where
   pub all_digits : IsTrue (list_all is_digit bytes)
   pub makes : number_from before bytes ≡ number
@@ -40,7 +40,7 @@ pub digits_from_read : (before : ℕ) (bytes : List ℕ) (number : ℕ) → IsRe
 digits_from_read before bytes number read =
     rw (read.all_digits, read.makes, le-leb number (2 ^ 63) read.bounded)
 
--- the digits that come first make no more than all of them
+-- the first digits give no larger number than all of them
 pub first_bounded : (before : ℕ) (first later : List ℕ) → number_from before (first ++ later) ≤ 2 ^ 63 → number_from before first ≤ 2 ^ 63
 first_bounded before first later within =
     omega (arith, number_from-append before first later, number_from-ge (number_from before first) later)
@@ -71,13 +71,13 @@ pub pointed-more : (fraction : List ℕ) → 0 < length fraction → pointed fra
 pointed-more [] some = absurd (omega arith)
 pointed-more (byte ∷ bytes) some = refl
 
--- the first point is where the place says
+-- the byte at the place of the first point is a point
 point_at : (text : List ℕ) → position_or_len (λ byte. byte == 46) text < length text → get_or text (position_or_len (λ byte. byte == 46) text) 0 ≡ 46
 point_at text within =
     let stops = prefix_len_stops (λ byte. not (byte == 46)) text 0 within in
     eqb-true _ 46 (not-false _ stops)
 
--- what stands before the first point, and what stands behind it
+-- the text before the first point, and the text after it
 pub split_at_point : (text : List ℕ) (place : ℕ) → place ≡ position_or_len (λ byte. byte == 46) text
     → (place < length text → 0 < length (drop (place + 1) text)) → text ≡ take place text ++ pointed (drop (place + 1) text)
 split_at_point text place is more =
@@ -186,7 +186,7 @@ parts_at digits decimals text fraction place is behind number =
     let parts = subst (λ n. HasParts digits decimals n (number_from 0 number.whole) text) (sym is) (parts_of_number digits decimals text number) in
     (number_from 0 number.whole, parts, ap length behind ∙ parts.decimals_are, ap (number_of_digits (number_from 0 number.whole)) behind ∙ parts.then_read)
 
--- a text is one number only
+-- a text spells at most one number
 pub one_number : (one other few many : ℕ) (text : List ℕ) → IsNumber one few text → IsNumber other many text → (one ≡ other) × (few ≡ many)
 one_number one other few many text is also =
     let first = parts_of_number one few text is in
@@ -223,7 +223,7 @@ decimal_is number fits =
     ))
     number fits
 
--- zeros in front of digits change no number
+-- zeros before digits change no number
 pub zeros_before : (count number : ℕ) (digits : List ℕ) → IsDecimal number digits → IsDecimal number (replicate count 48 ++ digits)
 zeros_before zero number digits is = is
 zeros_before (suc count) number digits is =

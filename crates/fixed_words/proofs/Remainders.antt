@@ -1,4 +1,4 @@
--- What the floor of a quotient leaves, by the signs of both.
+-- The remainder of the floor of a quotient, by the signs of dividend and divisor.
 use Rattle.std.proofs.Common.{◌≡◌, ◌≢◌, ℕ, zero, suc, ◌-◌, ◌%◌, ◌<◌, inl, inr, refl, sym, ap, ◌∙◌, subst, arith, ℤ, pos, negsuc, neg_ℤ, ◌-ℤ◌, ◌*ℤ◌}
 use Rattle.std.specs.Int.{int_div_euclid, is_negative}
 use Rattle.std.specs.Int.RustNames.{unsigned_abs}
@@ -27,14 +27,14 @@ nothing_by_negative b = over_negative (pos zero) b ∙ omega (arith, ints)
 pub negative_by_negative : (a b : ℕ) → left_over (negsuc a) (negsuc b) ≡ neg_ℤ (pos (suc a % suc b))
 negative_by_negative a b = over_negative (negsuc a) b ∙ omega (arith, ints)
 
--- what is left of a positive divisor's multiples
+-- the remainder of a multiple of a positive divisor
 left_positive : (dividend : ℤ) (b left : ℕ) → left_over dividend (pos (suc b)) ≡ pos left → left < suc b → IsFloor dividend (pos (suc b))
 left_positive dividend b left is below = record {
   smaller = subst (λ rest. unsigned_abs rest < suc b) (sym is) below;
   sign = inr (ap is_negative is ∙ never_below_zero left ∙ sym (never_below_zero (suc b)));
 }
 
--- what is left of a negative divisor's multiples
+-- the remainder of a multiple of a negative divisor
 left_negative : (dividend : ℤ) (b left : ℕ) → left_over dividend (negsuc b) ≡ neg_ℤ (pos left) → left < suc b → IsFloor dividend (negsuc b)
 left_negative dividend b zero is below = record {
   smaller = subst (λ rest. unsigned_abs rest < suc b) (sym is) below;

@@ -26,7 +26,7 @@ number_first : (digits decimals byte : ℕ) (others : List ℕ) → is_digit byt
 number_first digits decimals byte others other_byte number =
     no_digit_first number.whole number.fraction others byte number.is_whole.0 number.is_whole.1 other_byte number.spelled
 
--- two ways to cut a sign off are one
+-- a sign can be cut off in only one way
 same_cut : (digits decimals : ℕ) (text number other : List ℕ) (negative minus : Bool) → text ≡ sign_text negative ++ number
     → OnFalse negative ((rest : List ℕ) → text ≢ 45 ∷ rest) → text ≡ sign_text minus ++ other → IsNumber digits decimals other
     → (minus ≡ negative) × IsNumber digits decimals number
@@ -38,7 +38,7 @@ same_cut digits decimals text number other false true cut no_sign spelled is = a
 same_cut digits decimals text number other false false cut no_sign spelled is =
     (refl, subst (IsNumber digits decimals) (sym spelled ∙ cut) is)
 
--- what stands behind the sign that the code has cut off
+-- the text after the sign that the code has cut off
 pub signed_parts : (word : ℤ) (decimals : ℕ) (text number : List ℕ) (negative : Bool) → text ≡ sign_text negative ++ number
     → OnFalse negative ((rest : List ℕ) → text ≢ 45 ∷ rest) → (is : IsSignedNumber word decimals text)
     → IsNumber is.digits decimals number × (with_sign negative is.digits ≡ word)
@@ -73,7 +73,7 @@ not_both false word decimals text truth is =
     not_signed is.negative is.digits decimals 102 (97 ∷ 108 ∷ 115 ∷ 101 ∷ []) is.number refl (λ e. omega arith)
     (sym false_bytes ∙ sym truth ∙ is.spelled) is.is_number
 
--- behind a `-` no number begins with `-`, and no number does
+-- no number begins with `-`, and so none after a `-` does
 no_second_sign : (digits decimals : ℕ) (text number : List ℕ) (negative : Bool) → text ≡ sign_text negative ++ number → IsNumber digits decimals number
     → OnFalse negative ((rest : List ℕ) → text ≢ 45 ∷ rest)
 no_second_sign digits decimals text number true spelled is = tt

@@ -8,12 +8,12 @@ use Rattle.fixed_words.specs.Types.{AreDecimals, is_word_of}
 use Rattle.fixed_words.specs.declared.types.Literal.{Literal}
 use Rattle.fixed_words.specs.declared.types.Ty.{Ty}
 
--- What the divisor, taken as often as the quotient says, leaves of the dividend.
+-- The remainder: the dividend without the divisor times the quotient.
 abbrev pub left_over : ℤ → ℤ → ℤ
 left_over dividend divisor = dividend -ℤ (divisor *ℤ floor_quotient dividend divisor)
 
--- The quotient is the floor: what it leaves is smaller in magnitude than the divisor, and zero or of the
--- divisor's sign.
+-- The quotient is the floor: the remainder is smaller in magnitude than the divisor, and is zero or has
+-- the divisor's sign.
 pub record IsFloor (dividend divisor : ℤ) : Type 0 where
   pub smaller : unsigned_abs (left_over dividend divisor) < unsigned_abs divisor
   pub sign : (left_over dividend divisor ≡ pos 0) ⊎ (is_negative (left_over dividend divisor) ≡ is_negative divisor)
@@ -26,7 +26,7 @@ QuotientsAreFloors = (dividend divisor : ℤ) → divisor ≢ pos 0 → IsFloor 
 abbrev pub TextsSpellOneLiteral : Type 0
 TextsSpellOneLiteral = (text : List ℕ) (one other : Literal) → IsLiteralText text one → IsLiteralText text other → one ≡ other
 
--- The text of a word spells a literal that stands for this word.
+-- The text of a word spells a literal that has this word.
 abbrev pub IsReadBack : Ty → ℤ → Type 0
 IsReadBack ty word = (literal : Literal) × IsLiteralText (text_of ty word) literal × (word_of_literal ty literal ≡ Ok word)
 

@@ -6,7 +6,7 @@ use Rattle.fixed_words.specs.declared.types.Ty.TheVariants.{Int64}
 use Rattle.fixed_words.specs.declared.types.Fault.{Fault}
 use Rattle.fixed_words.specs.declared.types.Fault.TheVariants.{Overflow, ZeroDivisor}
 
--- What an operation on words gives: a word, or a fault.
+-- The result of an operation on words: a word, or a fault.
 abbrev pub Outcome : Type 0
 Outcome = Result ℤ Fault
 
@@ -20,11 +20,11 @@ is_zero (pos zero) = true
 is_zero _ = false
 
 -- The quotient rounded towards minus infinity, whatever the signs; the divisor b is not zero. Since a/b is ab/b², it
--- is the Euclidean quotient of these two: b² is never negative, and by such a divisor Euclidean division is the floor.
+-- is the Euclidean quotient of ab by b². Since b² is never negative, Euclidean division by it is the floor.
 abbrev pub floor_quotient : ℤ → ℤ → ℤ
 floor_quotient dividend divisor = int_div_euclid (dividend *ℤ divisor) (divisor *ℤ divisor)
 
--- The power of ten by which a fixed-point word of so many decimals is scaled.
+-- The power of ten by which a fixed-point word with this many decimals is scaled.
 abbrev pub ten_to : ℕ → ℤ
 ten_to decimals = pos (10 ^ decimals)
 
@@ -45,7 +45,7 @@ abbrev pub quotient : ℤ → ℤ → Outcome
 quotient dividend divisor =
     if is_zero divisor then Err ZeroDivisor else word_of (floor_quotient dividend divisor)
 
--- `mod`: what the floor of the quotient leaves
+-- `mod`: the remainder of the floor of the quotient
 abbrev pub remainder : ℤ → ℤ → Outcome
 remainder dividend divisor =
     if is_zero divisor then Err ZeroDivisor else word_of (dividend -ℤ (divisor *ℤ floor_quotient dividend divisor))
@@ -67,13 +67,13 @@ negated word = word_of (neg_ℤ word)
 abbrev pub magnitude : ℤ → Outcome
 magnitude word = word_of (pos (unsigned_abs word))
 
--- a word with so many more decimals, and with so many fewer
+-- a word with this many more decimals, and with this many fewer
 abbrev pub scaled_up : ℕ → ℤ → Outcome
 scaled_up decimals word = word_of (word *ℤ ten_to decimals)
 
 abbrev pub scaled_down : ℕ → ℤ → Outcome
 scaled_down decimals word = word_of (floor_quotient word (ten_to decimals))
 
--- `clamp`: the word brought into the bounds; where they cross, the low one
+-- `clamp`: the value, or the bound that it passes; where the low bound is above the high one, the low one
 abbrev pub clamped : ℤ → ℤ → ℤ → ℤ
 clamped word low high = int_max low (int_min word high)

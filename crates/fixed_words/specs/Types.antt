@@ -33,7 +33,7 @@ highest Int64 = pos (2 ^ 63 - 1)
 highest types.Bool = pos 1
 highest (Fixed decimals) = pos (2 ^ 63 - 1)
 
--- An integer lies between two others, both ends allowed.
+-- An integer is between two others, both ends allowed.
 abbrev pub is_between : ℤ → ℤ → ℤ → Bool
 is_between low high word = int_le low word && int_le word high
 

@@ -3,8 +3,8 @@ ghost use Rattle.std.specs.Prelude.{◌≡◌, IfOk};
 use std::alloc::{AllocError, Global};
 use std::marker::Model;
 
-/// A `Box` that contracts see as the value in it, without its place in memory: so a type may hold
-/// boxes of itself and still be plain data to contracts.
+/// A `Box` that contracts see as the value in it, without its address. So a type may hold boxes of
+/// itself and still be plain data to contracts.
 #[derive(Debug, Drop)]
 pub struct Boxed<T> {
     inner: Box<T>,
@@ -35,7 +35,7 @@ impl<T> Boxed<T> {
 }
 
 impl<T: Drop> Boxed<T> {
-    /// A box with `value` in it.
+    /// Returns a box with `value` in it. The only error is that there is no memory.
     pub fn new(alloc: Global, value: T) -> Result<Boxed<T>, AllocError>
         ensures { IfOk result (λ b. b ≡ value) }
     {

@@ -4,20 +4,21 @@ ghost use Rattle.fixed_words.specs.Digits.{IsNumber, number_of_digits};
 
 use model_rules::MOST_DECIMALS;
 
-/// The greatest number that digits may make: with a `-` before it, it is the least word.
+/// The greatest number that digits may have: with a `-` before it, it is the least word.
 const GREATEST: u64 = 1 << 63;
 
 /// The most digits after the point.
 const LONGEST_FRACTION: usize = MOST_DECIMALS as usize;
 
-/// A number without a sign: what its digits make without the point, and how many stand behind it.
+/// A number without a sign: the number of all its digits without the point, and how many of them follow the
+/// point.
 #[derive(Clone, Copy)]
 pub(crate) struct Unsigned {
     pub(crate) digits: u64,
     pub(crate) decimals: u8,
 }
 
-/// The number with one digit more, if the byte is one and the number is not too large.
+/// The number with one digit more, if the byte is a digit and the number is not too large.
 fn with_digit(number: u64, byte: u8) -> Option<u64>
     ensures { result ≡ number_of_digits number (byte ∷ []) }
 {
@@ -32,7 +33,7 @@ fn with_digit(number: u64, byte: u8) -> Option<u64>
     }
 }
 
-/// The number that the bytes make with the digits before them, if all are digits and it is not too large.
+/// The number of the digits before and these bytes, if all bytes are digits and it is not too large.
 fn read_digits(before: u64, bytes: &[u8]) -> Option<u64>
     requires { before ≤ 2 ^ 63 }
     ensures { result ≡ number_of_digits before bytes.now }
@@ -53,7 +54,8 @@ fn point_place(text: &[u8]) -> usize
         .unwrap_or(text.len())
 }
 
-/// What stands behind the point at this place, or nothing where no text does; empty where there is no point.
+/// The digits after the point at this place, which are empty where there is no point. `None` where the text
+/// ends with its point.
 fn fraction_behind(text: &[u8], point: usize) -> Option<&[u8]>
     requires { point ≤ length text.now }
     ensures some { IfSome result (λ fraction. fraction.now ≡ drop (point + 1) text.now) }
@@ -69,7 +71,7 @@ fn fraction_behind(text: &[u8], point: usize) -> Option<&[u8]>
     }
 }
 
-/// The number that the text spells, if it is one.
+/// The number that the text spells, or `None` if it spells none.
 pub(crate) fn read_number(text: &[u8]) -> Option<Unsigned>
     ensures some { IfSome result (λ number. IsNumber number.digits number.decimals text.now) }
     ensures only { (digits decimals : ℕ) → IsNumber digits decimals text.now

@@ -1,9 +1,9 @@
-//! Words and their types: what every value of a simulation is, and what the operations on it give.
+//! Words and their types: the values of a simulation, and what the operations on them give.
 //!
-//! A word is a signed 64-bit integer, which contracts see as an integer (`ℤ`). A [`Ty`] says which
-//! words a variable may hold and how they are written; a [`Fault`] is what an operation gives in
-//! place of a word. The crate also has [`List`] and [`Boxed`], a `Vec` and a `Box` that contracts see
-//! as what they hold, so that trees of them are plain data.
+//! A word is a signed 64-bit integer, which contracts see as an integer (`ℤ`). A [`Ty`] states which
+//! words a variable may hold and how they are written. A [`Fault`] is what an operation gives where it
+//! has no word. The crate also has [`List`] and [`Boxed`], a `Vec` and a `Box` that contracts see as
+//! what they hold, so that trees of them are plain data.
 //!
 //! The layers above use all that is named here. [`read_literal`], [`literal_word`], [`fits`] and the
 //! operations take no memory; [`word_text`] and [`magnitude_text`] take only what their buffer grows by.
@@ -33,5 +33,5 @@ pub use operations::{
 pub use text::{magnitude_text, word_text};
 pub use types::{Fault, Kind, Literal, LiteralFault, Ty, fits, range};
 
-/// Want of memory, as an error.
+/// There is no memory, as an error.
 pub type NoMemory = std::alloc::AllocError;

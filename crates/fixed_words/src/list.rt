@@ -4,9 +4,9 @@ ghost use Rattle.std.specs.Option.{option_copied};
 use std::alloc::{AllocError, Global};
 use std::marker::Model;
 
-/// A `Vec` that contracts see as the list of its elements, without capacity and place in memory: so
-/// two lists with equal elements are equal, and a type may hold lists of itself and still be plain
-/// data to contracts.
+/// A `Vec` that contracts see as the list of its elements, without its capacity and address. So two
+/// lists with equal elements are equal, and a type may hold lists of itself and still be plain data
+/// to contracts.
 #[derive(Debug, Drop)]
 pub struct List<T> {
     items: Vec<T>,
@@ -24,7 +24,7 @@ impl<T> Model for List<T> {
 }
 
 impl<T> List<T> {
-    /// The empty list. Pushing to it takes memory from `alloc`.
+    /// Returns an empty list. Pushing to it takes memory from `alloc`.
     pub fn new(alloc: Global) -> List<T>
         ensures { result ≡ [] }
     {
@@ -76,7 +76,7 @@ impl<T> List<T> {
 }
 
 impl<T: Drop> List<T> {
-    /// Puts `item` at `place`, counted from 0.
+    /// Sets the element at `place`, counted from 0, to `item`.
     pub fn set(&mut self, place: usize, item: T)
         requires { place < length self.old }
         ensures { self.new ≡ slice_set self.old place item }
@@ -84,7 +84,7 @@ impl<T: Drop> List<T> {
         self.items[place] = item;
     }
 
-    /// Adds `item` at the end. Where there is no memory the list is as before.
+    /// Adds `item` at the end. Where there is no memory, the list is unchanged.
     pub fn push(&mut self, item: T) -> Result<(), AllocError>
         ensures ok { OnOk result (self.new ≡ self.old ++ item ∷ []) }
         ensures err { OnErr result (self.new ≡ self.old) }
@@ -95,7 +95,7 @@ impl<T: Drop> List<T> {
 }
 
 impl<T: Copy> List<T> {
-    /// A list of copies of `items`.
+    /// Returns a list of copies of `items`. The only error is that there is no memory.
     pub fn from_slice(alloc: Global, items: &[T]) -> Result<List<T>, AllocError>
         ensures { IfOk result (λ l. l ≡ items.now) }
     {

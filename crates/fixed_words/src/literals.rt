@@ -31,7 +31,7 @@ pub fn signed_word(negative: bool, digits: u64) -> Option<i64>
     i64::try_from(if negative { -number } else { number }).ok()
 }
 
-/// Whether the text begins with `-`, and what stands behind it.
+/// Whether the text begins with `-`, and the text after that sign.
 fn split_sign(text: &[u8]) -> (bool, &[u8])
     ensures spelled { text.now ≡ sign_text result.0 ++ result.1.now }
     ensures no_sign { OnFalse result.0 ((rest : List ℕ) → text.now ≢ 45 ∷ rest) }
@@ -42,7 +42,7 @@ fn split_sign(text: &[u8]) -> (bool, &[u8])
     }
 }
 
-/// The number that the text spells behind its sign, if it is one and its word fits.
+/// The number that the text spells with its sign, if it spells one and its word fits.
 fn read_signed(text: &[u8]) -> Option<Literal>
     ensures some { IfSome result (IsLiteralText text.now) }
     ensures only { (word : ℤ) (decimals : ℕ) → IsSignedNumber word decimals text.now
@@ -54,9 +54,9 @@ fn read_signed(text: &[u8]) -> Option<Literal>
     Some(Literal::Number { word, decimals })
 }
 
-/// The literal that the text spells, or nothing where it is none; it takes no memory.
+/// The literal that the text spells, or `None` where it spells none. It takes no memory.
 ///
-/// A literal is `true`, `false`, or a number with perhaps a `-` directly before it, and no blanks. A number
+/// A literal is `true`, `false`, or a number, without blanks. A number may have a `-` directly before it. It
 /// is digits, leading zeros allowed, or digits, a point and one to nine digits. Its digits without the point
 /// make a word from 0 to 2^63 - 1, or with the sign down to -2^63. The literal keeps that word and the count
 /// of decimals: `-0.50` has the word -50 and two decimals, and `-0` the word 0.
@@ -84,9 +84,9 @@ fn fixed_word(has: u8, word: i64, decimals: u8) -> Result<i64, LiteralFault>
 
 /// The word of a literal as a value of the type.
 ///
-/// [`LiteralFault::Form`] where a truth value meets a number type, a number meets Bool, an integer type
-/// meets decimals, or fixed point meets more decimals than it has; else [`LiteralFault::Range`] where
-/// the scaled word is none of the type's.
+/// [`LiteralFault::Form`] for a truth value of a number type, a number of type Bool, decimals of an integer
+/// type, or more decimals than a fixed-point type has. Else [`LiteralFault::Range`] where the scaled word is
+/// not one of the type's.
 pub fn literal_word(ty: Ty, literal: Literal) -> Result<i64, LiteralFault>
     requires { AreDecimals ty }
     ensures { result ≡ word_of_literal ty literal }

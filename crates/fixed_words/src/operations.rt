@@ -74,7 +74,7 @@ pub fn abs(a: i64) -> Result<i64, Fault>
     a.checked_abs().ok_or(Fault::Overflow)
 }
 
-/// The quotient rounded towards minus infinity, and what it leaves. Both fit, since -1 is no divisor here.
+/// The quotient rounded towards minus infinity, and the remainder. Both fit, since the divisor is not -1 here.
 #[inline]
 fn floor_and_rest(dividend: i64, divisor: i64) -> (i64, i64)
     requires not_zero { divisor ≢ pos 0 }
@@ -104,7 +104,7 @@ pub fn div(a: i64, b: i64) -> Result<i64, Fault>
     }
 }
 
-/// `mod`: what [`div`] leaves, with the divisor's sign. [`Fault::ZeroDivisor`] where `b` is zero.
+/// `mod`: the remainder of [`div`], with the divisor's sign. [`Fault::ZeroDivisor`] where `b` is zero.
 #[inline]
 pub fn rem(a: i64, b: i64) -> Result<i64, Fault>
     ensures { result ≡ remainder a b }
@@ -155,7 +155,8 @@ fn wide_quotient(a: i64, b: i64, divisor: i64) -> Result<i64, Fault>
     fitting(wide_floor(product_of(a, b), i128::from(divisor)))
 }
 
-/// `*` of two fixed-point words of `n` decimals, rounded towards minus infinity.
+/// `*` of two fixed-point words of `n` decimals, rounded towards minus infinity. [`Fault::Overflow`] where the result
+/// does not fit 64 bits.
 #[inline(always)]
 pub fn fix_mul(a: i64, b: i64, n: u8) -> Result<i64, Fault>
     requires { n ≤ 9 }
@@ -167,8 +168,8 @@ pub fn fix_mul(a: i64, b: i64, n: u8) -> Result<i64, Fault>
     }
 }
 
-/// `/` of two fixed-point words of `n` decimals, rounded towards minus infinity.
-/// [`Fault::ZeroDivisor`] where `b` is zero.
+/// `/` of two fixed-point words of `n` decimals, rounded towards minus infinity. [`Fault::ZeroDivisor`] where `b` is
+/// zero, and [`Fault::Overflow`] where the result does not fit 64 bits.
 #[inline(always)]
 pub fn fix_div(a: i64, b: i64, n: u8) -> Result<i64, Fault>
     requires { n ≤ 9 }
@@ -182,7 +183,7 @@ pub fn fix_div(a: i64, b: i64, n: u8) -> Result<i64, Fault>
     }
 }
 
-/// The word with `n` decimals more.
+/// The word with `n` more decimals. [`Fault::Overflow`] where it does not fit 64 bits.
 #[inline(always)]
 pub fn scale_up(word: i64, n: u8) -> Result<i64, Fault>
     requires { n ≤ 9 }
@@ -191,8 +192,8 @@ pub fn scale_up(word: i64, n: u8) -> Result<i64, Fault>
     mul(word, unit_word(n))
 }
 
-/// The word divided by a positive number and rounded towards minus infinity. It is compiled for each number by itself,
-/// as a multiplication.
+/// The word divided by a positive number and rounded towards minus infinity. Each caller passes a constant, so that it
+/// is compiled as a multiplication.
 #[inline(always)]
 fn floor_by(word: i64, divisor: i64) -> i64
     requires { pos 1 <ℤ divisor }
@@ -221,7 +222,7 @@ fn without_decimals(word: i64, n: u8) -> i64
     }
 }
 
-/// The word with `n` decimals fewer, rounded towards minus infinity.
+/// The word with `n` fewer decimals, rounded towards minus infinity. It is never a fault.
 #[inline(always)]
 pub fn scale_down(word: i64, n: u8) -> Result<i64, Fault>
     requires { n ≤ 9 }

@@ -7,11 +7,11 @@ use crate::NoMemory;
 use crate::types::Ty;
 use itoa::Buffer;
 
-/// As many zeros as may stand between the point and the digits.
+/// The most zeros that may be between the point and the digits.
 const ZEROS: [u8; 9] = *b"000000000";
 
-/// Appends digits of which all are decimals, with zeros in front. Where there is no memory, something may
-/// have been appended.
+/// Appends digits of which all are decimals, with zeros before them. Where there is no memory, a part may have been
+/// appended.
 fn append_below_one(digits: &[u8], decimals: usize, out: &mut Vec<u8>) -> Result<(), NoMemory>
     requires all_decimals { length digits.now ≤ decimals }
     requires some_decimals { 0 < decimals }
@@ -25,8 +25,7 @@ fn append_below_one(digits: &[u8], decimals: usize, out: &mut Vec<u8>) -> Result
     Ok(())
 }
 
-/// Appends digits of which some stand before the point. Where there is no memory, something may have been
-/// appended.
+/// Appends digits of which some are before the point. Where there is no memory, a part may have been appended.
 fn append_from_one(digits: &[u8], decimals: usize, out: &mut Vec<u8>) -> Result<(), NoMemory>
     requires { decimals < length digits.now }
     ensures ok { OnOk result (out.new.items ≡ out.old.items ++ pointed_before decimals (padded decimals digits.now)) }
@@ -41,7 +40,7 @@ fn append_from_one(digits: &[u8], decimals: usize, out: &mut Vec<u8>) -> Result<
     Ok(())
 }
 
-/// Appends the sign of a negative word, and nothing of another.
+/// Appends the sign of a negative word, and nothing for any other.
 fn append_sign(word: i64, out: &mut Vec<u8>) -> Result<(), NoMemory>
     ensures ok { OnOk result (out.new.items ≡ out.old.items ++ sign_text (is_negative word)) }
     ensures err { OnErr result (out.new.items ≡ out.old.items) }
@@ -52,7 +51,7 @@ fn append_sign(word: i64, out: &mut Vec<u8>) -> Result<(), NoMemory>
     Ok(())
 }
 
-/// Appends a magnitude with so many decimals. Where there is no memory, something may have been appended.
+/// Appends a magnitude with this many decimals. Where there is no memory, a part may have been appended.
 fn append_magnitude(decimals: u8, magnitude: u64, out: &mut Vec<u8>) -> Result<(), NoMemory>
     requires { decimals ≤ 9 }
     ensures ok { OnOk result (out.new.items ≡ out.old.items ++ fixed_text decimals magnitude) }
@@ -68,7 +67,7 @@ fn append_magnitude(decimals: u8, magnitude: u64, out: &mut Vec<u8>) -> Result<(
     }
 }
 
-/// Appends a fixed-point word. Where there is no memory, something may have been appended.
+/// Appends a fixed-point word. Where there is no memory, a part may have been appended.
 fn append_fixed(decimals: u8, word: i64, out: &mut Vec<u8>) -> Result<(), NoMemory>
     requires { decimals ≤ 9 }
     ensures ok { OnOk result (out.new.items
@@ -95,8 +94,8 @@ fn fixed_word_text(decimals: u8, word: i64, out: &mut Vec<u8>) -> Result<(), NoM
     written
 }
 
-/// Appends a magnitude as a decimal number with exactly so many decimals, and no point where there are none. Only the
-/// growth of `out` takes memory; where there is none `out` is as before.
+/// Appends a magnitude as a decimal number with exactly this many decimals, without a point where there are none.
+/// Only the growth of `out` takes memory; where there is none, `out` is unchanged.
 pub fn magnitude_text(decimals: u8, magnitude: u64, out: &mut Vec<u8>) -> Result<(), NoMemory>
     requires { decimals ≤ 9 }
     ensures ok { OnOk result (out.new.items ≡ out.old.items ++ fixed_text decimals magnitude) }
@@ -110,8 +109,8 @@ pub fn magnitude_text(decimals: u8, magnitude: u64, out: &mut Vec<u8>) -> Result
     written
 }
 
-/// Appends the text of a word of the type: `true` or `false`, an integer in decimal, or a fixed-point number
-/// with exactly its decimals. Only the growth of `out` takes memory; where there is none `out` is as before.
+/// Appends the text of a word of the type: `true` or `false`, an integer in decimal, or a fixed-point number with
+/// exactly its decimals. Only the growth of `out` takes memory; where there is none, `out` is unchanged.
 pub fn word_text(ty: Ty, word: i64, out: &mut Vec<u8>) -> Result<(), NoMemory>
     requires of_type { IsTrue (is_word_of ty word) }
     requires decimals { AreDecimals ty }

@@ -1,7 +1,8 @@
 ghost use Rattle.std.specs.Prelude.{◌≡◌};
 ghost use Rattle.fixed_words.specs.Types.{kind_of, lowest, highest, is_word_of};
 
-/// The kind of an expression's value: operands and results are judged by it.
+/// The kind of an expression's value. The rules state by it which operands an operation may have, and what it
+/// gives.
 ///
 /// All integer types are of the one kind `Int`.
 #[derive(Clone, Copy, Debug, PartialEq, Eq)]
@@ -14,7 +15,7 @@ pub enum Kind {
 
 /// The type of a variable: which words it may hold, and how they are written.
 ///
-/// The integer types and Boolean are those of FMI 3.0 but `UInt64`; `Fixed` is fixed point.
+/// The integer types and Boolean are those of FMI 3.0 except `UInt64`; `Fixed` is fixed point.
 #[derive(Clone, Copy, Debug, PartialEq, Eq)]
 pub enum Ty {
     Int8,
@@ -26,8 +27,8 @@ pub enum Ty {
     Int64,
     /// The word 0 is false and 1 is true.
     Bool,
-    /// Fixed point with this many decimals, from 0 to 9: the value is the word divided by that power
-    /// of ten, and every word is one.
+    /// Fixed point with this many decimals, from 0 to 9: the value is the word divided by that power of ten.
+    /// Every word is a word of the type.
     Fixed(u8),
 }
 
@@ -44,35 +45,37 @@ impl Ty {
     }
 }
 
-/// What an operation, a store or a call of a component gives in place of a word. Notes tell it by its number.
+/// What an operation, a store or a call of a component gives where it has no word. Notes name it by its
+/// number.
 #[derive(Clone, Copy, Debug, PartialEq, Eq)]
 pub enum Fault {
     /// Fault 1: a result does not fit 64 bits.
     Overflow,
-    /// Fault 2: a word is stored in a state or local, or given as an output, outside its declared type.
+    /// Fault 2: a word is stored in a state or local, or given by an output, that is not a word of its
+    /// declared type.
     Range,
     /// Fault 3: the divisor of `div`, `mod` or `/` is zero.
     ZeroDivisor,
-    /// Fault 4: a component accepts a length outside the step that it was asked for.
+    /// Fault 4: a component accepts a length below 0 or above the step that it was asked for.
     Accept,
-    /// Fault 5: a component gives a negative greatest step.
+    /// Fault 5: `max` of a component gives a negative number.
     Max,
 }
 
-/// A literal as it was written: a truth value, or a number by the word of its digits without the
-/// point and how many of them stand behind it, from 0 to 9.
+/// A literal as it was written: a truth value, or a number as the word of its digits without the point and
+/// how many digits, from 0 to 9, follow the point.
 #[derive(Clone, Copy, Debug, PartialEq, Eq)]
 pub enum Literal {
     Truth(bool),
     Number { word: i64, decimals: u8 },
 }
 
-/// Why a literal gives no word of a type.
+/// Why a literal has no word of a type.
 #[derive(Clone, Copy, Debug, PartialEq, Eq)]
 pub enum LiteralFault {
     /// A truth value for a number type, a number for Bool, or more decimals than the type has.
     Form,
-    /// The form is right, and the word is outside the type's range.
+    /// The form is right, and the word is not in the type's range.
     Range,
 }
 
@@ -98,7 +101,7 @@ pub fn fits(ty: Ty, word: i64) -> bool
     ensures { result ≡ is_word_of ty word }
 {
     match ty {
-        // Each word is one of these types.
+        // Every word is one of these types.
         Ty::Int64 | Ty::Fixed(_) => true,
         _ => {
             let (low, high) = range(ty);

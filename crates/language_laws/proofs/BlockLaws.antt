@@ -1,4 +1,4 @@
--- Each site of a system stands in its block, behind the line that opens it.
+-- Each site of a system is in its block, after the line that opens it.
 use Rattle.std.proofs.Common.{◌≡◌, ℕ, suc, Bool, true, false, cond, List, [], ◌∷◌, ◌++◌, append_assoc, map, length, Option, Some, None, ◌⊎◌, inl, inr, refl, ap}
 use Rattle.std.proofs.Common.{sym, subst, ◌∙◌}
 use Rattle.std.specs.List.{AllByRecursion, slice_get, flat_map, filter, list_all}
@@ -25,7 +25,7 @@ use Rattle.unit_tree.proofs.FoldLemmas.{fold-Assign, fold-If, fold-Repeat, fold-
 use Rattle.language_laws.proofs.PartLaws.{grouped, unit_is}
 use Rattle.list_laws.proofs.Lists.{all_of_two, each_append, none_cut, each_map}
 
--- ---- Lists that are cut at a member
+-- ---- Lists that are split at a member
 
 record InFront {A : Type 0} (xs before : List A) (x : A) : Type 0 where
   rest : List A
@@ -80,7 +80,7 @@ heads headed = map (λ one. one.head) headed
 abbrev pub site_at : Scope → List LineForm → List Headed → Headed → Site
 site_at scope earlier before this = record { scope = scope; earlier = earlier ++ heads before; line = this.head }
 
--- A site of a list is a head behind others, or stands in the block of a head behind others.
+-- A site of a list is a head after others, or is in the block of a head after others.
 record AtHead (scope : Scope) (earlier : List LineForm) (headed : List Headed) (before : List Site) (site : Site) : Type 0 where
   front : List Headed
   this : Headed
@@ -166,7 +166,7 @@ found_at scope earlier (first ∷ others) (b ∷ before) later site is =
 
 -- ---- The sites of one level among those before
 
--- No site of a block stands on the level of a scope.
+-- No site of a block is on the level of a scope.
 abbrev IsBelow : Scope → Headed → Type 0
 IsBelow scope headed = AllByRecursion (λ site. are_level scope site.scope ≡ false) headed.block
 
@@ -201,7 +201,7 @@ heads_on_level scope earlier (first ∷ others) below =
     (on_level-append scope first.block (sites scope (earlier ++ (first.head ∷ [])) others)
     ∙ rw (none_on_level scope first.block below.0) (heads_on_level scope (earlier ++ (first.head ∷ [])) others below.1)))
 
--- ---- Facts of each of many
+-- ---- A fact of each element
 
 pub each_front : {A : Type 0} (P : A → Type 0) (xs : List A) (y : A) (ys : List A) → AllByRecursion P (xs ++ (y ∷ ys)) → AllByRecursion P xs × P y
 each_front P [] y ys all = (_, all.0)
@@ -222,7 +222,7 @@ each_alone : (P : Headed → Type 0) (lines : List LineForm) → ((one : LineFor
 each_alone P [] is = _
 each_alone P (one ∷ lines) is = (is one, each_alone P lines is)
 
--- ---- Step lines are held by steps
+-- ---- Step lines are allowed in steps
 
 abbrev AreStepLines : Line → Type 0
 AreStepLines some = list_all is_step_line (line_forms some) ≡ true
@@ -289,7 +289,7 @@ alone_at scope lines before later site is =
           absurd (none_cut at.inner site at.rest (sym no_block ∙ at.block))
     ]
 
--- What is known of a site in a block that the site `head` opens, behind `front`.
+-- What is known of a site in a block that the site `head` opens, after `front`.
 in_alone_block : (system : System) (front : List Site) (head : Site) (scope : Scope) (lines : List LineForm) (inner rest : List Site) (site : Site)
     → sites scope [] (map alone lines) ≡ inner ++ (site ∷ rest) → ((at : Site) → at.scope ≡ scope → Opens system at.scope (front ++ (head ∷ [])))
     → ((one : LineForm) (before : List LineForm) → IsWithin scope scope) → list_all (holds scope) lines ≡ true
@@ -357,7 +357,7 @@ all_unit_heads unit inside =
     each_append (IsUnitHead unit) (flat_map (headed_unit_part unit) inside) (alone form.End ∷ []) (unit_heads unit inside)
     (record { held = refl; block = inl refl }, _)
 
--- A fact of the sites of a step holds in the block of each line of a unit.
+-- A fact of the sites of a step is true in the block of each line of a unit.
 in_step_block : (P : Site → Type 0) (unit : Unit)
     → ((before : List LineForm) (one : LineForm) → P (record { scope = StepScope unit; earlier = before; line = one })) → (headed : Headed)
     → IsUnitHead unit headed → AllByRecursion P headed.block
@@ -376,7 +376,7 @@ each_in_step : (P : Site → Type 0) (unit : Unit)
 each_in_step P unit on_step [] are = _
 each_in_step P unit on_step (one ∷ all) are = (in_step_block P unit on_step one are.0, each_in_step P unit on_step all are.1)
 
--- What is known of a site in the block of a unit that the site `head` opens, behind `front`.
+-- What is known of a site in the block of a unit that the site `head` opens, after `front`.
 in_unit_block : (system : System) (front : List Site) (head : Site) (unit : Unit) (inside : List UnitPart) (inner rest : List Site) (site : Site)
     → IsOpenedBy system (UnitScope unit) head → sites (UnitScope unit) [] (in_unit unit inside) ≡ inner ++ (site ∷ rest)
     → StandsBehind system (front ++ (head ∷ inner)) site
@@ -543,7 +543,7 @@ same_count test of_part same (part ∷ all) =
     count_one (test (headed_of part).head) (of_part part) (filter test (heads (map headed_of all))) (filter of_part all) (headed_of part).head part
     (same part) (same_count test of_part same all)
 
--- The unit of a part that stands among the canonical parts.
+-- The unit of a part that is among the canonical parts.
 record UnitAt (units : List Unit) (before : List Part) (name : List ℕ) (inside : List UnitPart) : Type 0 where
   unit : Unit
   at : slice_get units (length (filter is_unit_part before)) ≡ Some unit
@@ -627,7 +627,7 @@ behind_are test system connects stop longest zero rows samples =
     (each_append (λ part. test part ≡ false) _ _ (each_optional (λ part. test part ≡ false) parts.Rows system.rows rows)
     (each_map (λ part. test part ≡ false) parts.Samples system.samples samples)))))
 
--- A site in the block of a part, behind the header and other parts.
+-- A site in the block of a part, after the header and other parts.
 in_part : (system : System) (front : List Part) (part : Part) (later : List Part) (inner rest : List Site) (site : Site)
     → map unit_part system.units ++ (map parts.HasInstance system.instances ++ parts_behind system) ≡ front ++ (part ∷ later)
     → (headed_of part).block ≡ inner ++ (site ∷ rest)

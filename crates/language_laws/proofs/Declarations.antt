@@ -96,7 +96,7 @@ ports unit = map OfInput unit.inputs ++ (map OfEventIn unit.events_in ++ (map Of
 abbrev pub declarations : Unit → List Declared
 declarations unit = map OfParam unit.params ++ (map OfState unit.states ++ (map OfLocal unit.locals ++ ports unit))
 
--- Each is on the list.
+-- Each declaration is on the list.
 module _ (unit : Unit) where
   abbrev its_params : List Declared
   its_params = map OfParam unit.params
@@ -185,7 +185,7 @@ seven : {A B : Type 0} (f : A → B) (a b c d e g h : List A)
     → map f (a ++ (b ++ (c ++ (d ++ (e ++ (g ++ h)))))) ≡ map f a ++ (map f b ++ (map f c ++ (map f d ++ (map f e ++ (map f g ++ map f h)))))
 seven f a b c d e g h = simp map-append refl
 
--- The parts of a unit: perhaps its resolution, what it declares, perhaps `max`, perhaps its step.
+-- The parts of a unit: its resolution if it has one, its declarations, its `max` and its step if it has them.
 abbrev pub tail_parts : Unit → List UnitPart
 tail_parts unit = optional parts.Max unit.max ++ optional parts.Step unit.step
 
@@ -207,9 +207,9 @@ parts_are unit =
       mapped OfEventOut parts.HasEventOut (λ x. refl) unit.events_out,
     ) refl))
 
--- ---- What holds of their lines
+-- ---- What is known of their lines
 
--- No line that counts, or the resolution's alone.
+-- The lines before the declarations: none, or that of the resolution.
 abbrev pub front_lines : Option ℕ → List LineForm
 front_lines None = []
 front_lines (Some decimals) = form.Resolution decimals ∷ []
@@ -260,7 +260,7 @@ module _ (P : Site → Type 0) where
 -- ---- Names differ
 
 module _ (system : System) where
-  -- Things that are declared one after the other have different names, and none of an earlier line's.
+  -- Declarations in a row have names that differ from each other and from those of earlier lines.
   apart : (scope : Scope) (earlier : List LineForm) (all : List Declared) → Hold (Passes system) scope earlier (map head_of all)
       → Distinct (map name_of all) × ((name : List ℕ) → Has (map name_of all) name → Has (filter_map name_declared earlier) name → ⊥)
   apart scope earlier [] hold = (tt, λ name has before. has)
@@ -300,7 +300,7 @@ module _ (system : System) (unit : Unit) (like : LineForm) (limit : ℕ) where
   abbrev becomes : LineForm → List LineForm
   becomes line = plain_forms system (UnitScope unit) line
 
-  -- What a line becomes does not pass the limit, or does not count.
+  -- What a line becomes does not exceed the limit, or does not count.
   abbrev Counts : Declared → Type 0
   Counts one =
       ((earlier : List LineForm)

@@ -1,4 +1,4 @@
--- A system of version 1 speaks of no events, so that each of its units is what is run of it.
+-- A system of version 1 uses neither `absent` nor `present`, so each of its units is run as it is.
 use Rattle.std.proofs.Common.{◌≡◌, Bool, false, ℕ, List, [], ◌∷◌, ◌++◌, map, Option, Some, None, refl, sym, ap, ◌∙◌, subst}
 use Rattle.std.specs.Prelude.{◌==◌, ◌&&◌, cond}
 use Rattle.std.specs.List.{AllByRecursion, flat_map}

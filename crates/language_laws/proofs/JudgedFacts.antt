@@ -1,4 +1,5 @@
--- What the rules that a judged system keeps say of inputs, of connections and of what outputs use.
+-- What follows for a judged system from the rules about inputs, connections and the names that
+-- outputs use.
 use Rattle.std.proofs.Common.{◌≡◌, ℕ, true, false, List, [], ◌∷◌, ◌++◌, append_assoc, map, Some, refl, ap, subst}
 use Rattle.std.specs.Prelude.{is_none}
 use Rattle.std.specs.List.{AllByRecursion, flat_map}
@@ -30,7 +31,7 @@ use Rattle.list_laws.proofs.Members.{Distinct}
 abbrev unit_sites : Unit → List Site
 unit_sites unit = sites (UnitScope (said unit)) [] (flat_map (headed_unit_part (said unit)) (unit_parts unit) ++ (alone form.End ∷ []))
 
--- What declares an input.
+-- The declaration of an input.
 data Asking : Type 0 where
   OfInput : Input → Asking
   OfEventIn : EventIn → Asking
@@ -66,7 +67,7 @@ asking_names [] (event ∷ events) = ap (λ rest. event.name ∷ rest) (asking_n
 asking_names (input ∷ inputs) events = ap (λ rest. input.name ∷ rest) (asking_names inputs events)
 
 module _ (P : Site → Type 0) where
-  -- The inputs of a unit, event inputs among them.
+  -- The inputs of a unit, also event inputs.
   inputs_hold : (unit : Unit) → AllByRecursion P (unit_sites unit)
       → (before : List LineForm) × Hold P (UnitScope (said unit)) before (map asking_head (all_asking unit.inputs unit.events_in))
   inputs_hold unit all =
@@ -100,12 +101,12 @@ module _ (P : Site → Type 0) where
 
 -- ---- Systems
 
--- What the outputs of a unit use.
+-- The names that the outputs of a unit use.
 pub record UsesNeeds (unit : Unit) : Type 0 where
   pub outputs : AllByRecursion (λ (output : Output). uses_other_input unit output.needs output.value ≡ false) unit.outputs
   pub events : AllByRecursion (λ (event : EventOut). uses_other_input unit event.needs event.value ≡ false) unit.events_out
 
--- Whether the ends of a connection are there, and of one type.
+-- Whether the ends of a connection exist, and have the same type.
 pub record IsJoined (system : System) (wire : Wire) : Type 0 where
   pub from : is_none (output_at system wire.from) ≡ false
   pub to : is_none (input_at system wire.to) ≡ false

@@ -28,7 +28,7 @@ use Rattle.list_laws.proofs.Lists.{each_so, of_mapped, front_of, back_of, of_fla
 use Rattle.list_laws.proofs.Truths.{other_fails}
 use Rattle.language_laws.proofs.NameLaws.{all_keep}
 
--- ---- Facts of each of many
+-- ---- A fact of each element
 
 -- ---- No line breaks a rule
 
@@ -36,7 +36,7 @@ pub kept_on : (test : Bool) (number : ℕ) (rest : List ℕ) → cons_option (co
 kept_on true number rest none = absurd (cc none)
 kept_on false number rest none = (refl, none)
 
--- A fact of all sites holds of the one of each head.
+-- A fact of all sites is true of that of each head.
 pub each_at_head : (P : Site → Type 0) (scope : Scope) (earlier : List LineForm) (front : List Headed) (this : Headed) (others : List Headed)
     → AllByRecursion P (sites scope earlier (front ++ (this ∷ others))) → P (site_at scope earlier front this)
 each_at_head P scope earlier [] this others all = subst (λ e. P (record { scope = scope; earlier = e; line = this.head })) (sym (append-nil earlier)) all.0
@@ -146,7 +146,7 @@ from_instance system (first ∷ instances) port stands =
           record { before = first ∷ found.before; instance = found.instance; later = found.later; cut = ap (λ all. first ∷ all) found.cut; is_in = found.is_in }
     ]
 
--- Where no port of the list has the name, the named port is none of them.
+-- Where no port of the list has the name, the port is not in the list.
 pub not_among : (instance : Instance) (ports : List Port) (port : PortName) → AllByRecursion (λ one. bytes_eq one.name port.port ≡ false) ports
     → IsIn (map (λ output. port_of instance output.name) ports) port → ⊥
 not_among instance [] port none stands = stands
@@ -185,7 +185,7 @@ pub mapped : {A B : Type 0} (P : B → Type 0) (f : A → B) (xs : List A) → A
 mapped P f [] all = _
 mapped P f (x ∷ xs) all = (all.0, mapped P f xs all.1)
 
--- Where no line of the unit declares an output of the name, no output has it.
+-- Where no line of the unit declares an output of the name, no output of the unit has it.
 pub no_output : (name : List ℕ) (unit : Unit) → AllByRecursion (λ site. Unnamed name unit site.scope site.line) (headed_of (unit_part unit)).block
     → AllByRecursion (λ one. bytes_eq one.name name ≡ false) (output_ports unit)
 no_output name unit none =

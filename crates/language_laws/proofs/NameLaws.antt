@@ -1,4 +1,5 @@
--- Names that are declared once: what the first rule of a well-formed system says of instances and of outputs.
+-- Names that are declared once: what follows from the first rule of a well-formed system for instances and for
+-- outputs.
 use Rattle.std.proofs.Common.{◌≡◌, ℕ, ◌+◌, Bool, true, false, List, [], ◌∷◌, ◌++◌, append_assoc, map, Option, Some, None, inl, inr, refl, ap, sym, subst, ◌∙◌}
 use Rattle.std.proofs.Common.{◌⊎◌}
 use Rattle.std.specs.Prelude.{not, is_none, ◌&&◌, ◌||◌, cond, ⊤}
@@ -37,7 +38,7 @@ same_bytes one other is = (bytes_eq-Decides one other).0 is
 pub bytes_of : (one other : List ℕ) → one ≡ other → bytes_eq one other ≡ true
 bytes_of one other is = (bytes_eq-Decides one other).1 is
 
--- What equals none of some is not among them.
+-- An element that differs from all of a list is not in it.
 pub not_among : {B : Type 0} (same : B → B → Bool) (tells : (one other : B) → one ≡ other → same one other ≡ true) (name : B) (names : List B)
     → list_any (same name) names ≡ false → Has names name → ⊥
 not_among same tells name [] none has = has
@@ -45,7 +46,7 @@ not_among same tells name (first ∷ names) none (inl is) =
     true_is_false (same name first) (tells name first (sym is)) (or_parts (same name first) (list_any (same name) names) none).0
 not_among same tells name (first ∷ names) none (inr has) = not_among same tells name names (or_parts (same name first) (list_any (same name) names) none).1 has
 
--- The first of a name is the only one.
+-- The first element with a name is the only one.
 pub found_by : {A : Type 0} (name : A → List ℕ) (x first : A) (others : List A) (named : Bool) → bytes_eq (name first) (name x) ≡ named
     → (Has (map name others) (name first) → ⊥) → (first ≡ x) ⊎ Has others x → (Has others x → find (λ y. bytes_eq (name y) (name x)) others ≡ Some x)
     → cond named (Some first) (find (λ y. bytes_eq (name y) (name x)) others) ≡ Some x
@@ -80,7 +81,7 @@ module _ (P : Site → Type 0) where
   all_front [] behind all = (tt, all)
   all_front (site ∷ front) behind all = let rest = all_front front behind all.1 in ((all.0, rest.0), rest.1)
 
-  -- The same of lines with their blocks.
+  -- The same for lines with their blocks.
   abbrev pub Hold : Scope → List LineForm → List Headed → Type 0
   Hold scope earlier [] = ⊤
   Hold scope earlier (headed ∷ others) =
@@ -96,7 +97,7 @@ module _ (P : Site → Type 0) where
   hold_front scope earlier [] behind hold = tt
   hold_front scope earlier (first ∷ front) behind hold = (hold.0, hold.1, hold_front scope (earlier ++ (first.head ∷ [])) front behind hold.2)
 
-  -- With what comes before.
+  -- With the lines that come before.
   pub hold_behind : (scope : Scope) (earlier : List LineForm) (front behind : List Headed) → Hold scope earlier (front ++ behind)
       → (before : List LineForm) × Hold scope before behind
   hold_behind scope earlier [] behind hold = (earlier, hold)
@@ -105,7 +106,7 @@ module _ (P : Site → Type 0) where
   module _ {A B : Type 0} (same : B → B → Bool) (tells : (one other : B) → one ≡ other → same one other ≡ true) (head : A → Headed) (name : A → B)
       (asked : LineForm → Option B) (asks : (x : A) → asked (head x).head ≡ Some (name x))
       (unsaid : (site : Site) → P site → is_said same (filter_map asked site.earlier) (asked site.line) ≡ false) where
-    -- Things that are declared one after the other have different names, and none of an earlier line's.
+    -- Declarations in a row have names that differ from each other and from those of earlier lines.
     pub apart : (scope : Scope) (earlier : List LineForm) (xs : List A) → Hold scope earlier (map head xs)
         → Distinct (map name xs) × ((one : B) → Has (map name xs) one → Has (filter_map asked earlier) one → ⊥)
     apart scope earlier [] hold = (tt, λ one has before. has)
@@ -131,7 +132,7 @@ pub record NamesDiffer (system : System) : Type 0 where
   pub instances : Distinct (map (λ instance. instance.name) system.instances)
   pub outputs : AllByRecursion (λ unit. Distinct (map (λ output. output.name) unit.outputs)) system.units
 
--- The same of all outputs, event outputs among them.
+-- The same for all outputs, also event outputs.
 pub record PortsDiffer (system : System) : Type 0 where
   pub instances : Distinct (map (λ instance. instance.name) system.instances)
   pub outputs : AllByRecursion (λ unit. Distinct (output_names unit)) system.units
@@ -161,7 +162,7 @@ pub instance_heads : (instances : List Instance) → flat_map headed_part (map p
 instance_heads [] = refl
 instance_heads (instance ∷ instances) = ap (λ rest. instance_head instance ∷ rest) (instance_heads instances)
 
--- What declares an output.
+-- The declaration of an output.
 pub data Declaring : Type 0 where
   OfOutput : Output → Declaring
   OfEvent : EventOut → Declaring
@@ -235,7 +236,7 @@ module _ (P : Site → Type 0) where
   drop_last f scope earlier front behind hold =
       hold_front P scope earlier (flat_map f front) (flat_map f behind) (subst (Hold P scope earlier) (flat_map-append f front behind) hold)
 
-  -- The outputs of a unit, event outputs among them.
+  -- The outputs of a unit, also event outputs.
   pub outputs_hold : (unit : Unit)
       → AllByRecursion P (sites (UnitScope (said unit)) [] (flat_map (headed_unit_part (said unit)) (unit_parts unit) ++ (alone form.End ∷ [])))
       → (before : List LineForm) × Hold P (UnitScope (said unit)) before (map declaring_head (all_declaring unit.outputs unit.events_out))
@@ -260,7 +261,7 @@ module _ (P : Site → Type 0) where
       (subst (Hold P scope []) (flat_map-append headed before (outputs ++ events)) parted) in
       (here.0, subst (Hold P scope here.0) (output_heads (said unit) unit.outputs unit.events_out) here.1)
 
-  -- What the lines of a system keep, those of units, instances and connections keep.
+  -- A rule that the lines of a system keep is kept by those of units, instances and connections.
   pub record Kept (system : System) : Type 0 where
     pub units : Hold P TopScope (form.Header system.version ∷ []) (flat_map headed_part (said_units system.units))
     pub before_instances : List LineForm
@@ -328,7 +329,8 @@ module _ (system : System) where
 
 -- ---- Needs and connections
 
--- Each need of an output is an input of its unit, a connection comes from an output, and no two lead to one input.
+-- Each need of an output is an input of its unit, a connection comes from an output, and no two connections have
+-- the same input.
 pub record Wired (system : System) : Type 0 where
   pub needs : AllByRecursion (λ unit. AllByRecursion (λ output. are_among (input_names unit) output.needs ≡ true) unit.outputs) system.units
   pub from : AllByRecursion (λ wire. is_none (output_at system wire.from) ≡ false) system.wires
@@ -367,7 +369,7 @@ module _ (system : System) where
         units_need units (earlier ++ (form.Unit unit.name ∷ [])) hold.2,
       )
 
-  -- The same of all ports, those of events among them.
+  -- The same for all ports, also those of events.
   pub ports_need : (unit : Unit) (before : List LineForm) (outputs : List Output) (events : List EventOut)
       → Hold Names (UnitScope unit) before (map declaring_head (all_declaring outputs events))
       → AllByRecursion (λ (port : Port). are_among (input_names unit) port.needs ≡ true) (ports_declared outputs events)

@@ -1,4 +1,4 @@
--- What lines leave behind them: the lines before the next one, and the open blocks; and that a step line stands in its step.
+-- What is after given lines: the lines before the next one, and the open blocks; and that a step line is in its step.
 use Rattle.std.specs.Prelude.{⊤}
 use Rattle.std.proofs.Common.{◌≡◌, ℕ, true, false, List, [], ◌∷◌, ◌++◌, append_assoc, map, Some, None, refl, ap, sym, subst, ◌∙◌, append-nil}
 use Rattle.std.specs.List.{flat_map, fold}
@@ -25,14 +25,14 @@ pub all_in_text : (lines : List LineForm) (before : Before) → (and_lines befor
 all_in_text [] before = sym (append-nil before.in_text)
 all_in_text (some ∷ lines) before = all_in_text lines (and_line before some) ∙ append_assoc before.in_text (some ∷ []) lines
 
--- The open blocks behind lines are told from those before them alone.
+-- The open blocks after lines depend only on those before them.
 pub blocks_behind : (before : Before) (lines : List LineForm) → (and_lines before lines).open_blocks ≡ fold behind before.open_blocks lines
 blocks_behind before [] = refl
 blocks_behind before (line ∷ lines) = blocks_behind (and_line before line) lines
 
 -- ---- Lines of one scope
 
--- Each of the lines, behind those before it, has the scope.
+-- Each of the lines, after those before it, has the scope.
 abbrev pub AreIn : Scope → List Block → List LineForm → Type 0
 AreIn scope blocks [] = ⊤
 AreIn scope blocks (line ∷ lines) = (is_scope_in blocks scope line ≡ true) × AreIn scope (behind blocks line) lines
@@ -56,7 +56,7 @@ stay_both scope blocks between after xs ys on_xs on_ys = record {
 
 -- ---- Step lines
 
--- A step line closes what it opens, and in a step, or in a block there, each of its lines has the scope of the step.
+-- A step line closes what it opens. In a step, or in a block there, each of its lines has the scope of the step.
 pub record IsInStep (some : Line) : Type 0 where
   pub closed : (blocks : List Block) → fold behind blocks (line_forms some) ≡ blocks
   pub are_in : (unit : Unit) (blocks : List Block) → in_step blocks ≡ true → AreIn (StepScope unit) blocks (line_forms some)
@@ -81,7 +81,7 @@ all_in unit (one ∷ lines) blocks is =
     are_in_both (StepScope unit) blocks (line_forms one.0) (forms_in lines) (one.1.are_in unit blocks is)
     (subst (λ all. AreIn (StepScope unit) all (forms_in lines)) (sym (one.1.closed blocks)) (all_in unit lines blocks is))
 
--- The lines of a block, and what closes it.
+-- The lines of a block, and the line that closes it.
 pub block_closed : (lines : List Stepped) (rest : List LineForm) (blocks after : List Block) → fold behind blocks rest ≡ after
     → fold behind blocks (forms_in lines ++ rest) ≡ after
 block_closed lines rest blocks after is = fold-append behind blocks (forms_in lines) rest ∙ ap (λ all. fold behind all rest) (all_closed lines blocks) ∙ is
@@ -128,7 +128,7 @@ in_step-Repeat count body =
           (in_step_scope unit blocks (form.Repeat count) is refl, block_in unit body (form.End ∷ []) (InRepeat ∷ blocks) refl (refl, _));
     }
 
--- `if` with what stands behind its lines, which begins the `else` or is the `end`.
+-- The lines of an `if`, with what follows the lines of its block, which begins the `else` or is the `end`.
 abbrev pub if_forms : Expr → List Stepped → List LineForm → List LineForm
 if_forms condition then_lines rest = form.If condition ∷ forms_in then_lines ++ rest
 

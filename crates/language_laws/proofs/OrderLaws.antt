@@ -1,4 +1,5 @@
--- Outputs on a cycle stand in no orderly list: all that an output of one depends on comes before it.
+-- Outputs on a cycle are in no orderly list: all that an output of such a list depends on comes
+-- before it.
 use Rattle.std.proofs.Common.{◌≡◌, List, [], ◌∷◌, ◌++◌, append_assoc, inl, inr, refl, ap, sym, subst}
 use Rattle.std.specs.List.{AllByRecursion}
 use Rattle.std.proofs.lemmas.List.{append-nil}
@@ -50,7 +51,7 @@ place_of system before (first ∷ order) port orderly (inr later) =
       after_needs = subst (λ front. AllByRecursion (IsIn front) (needed_by system port)) (append_assoc before (first ∷ []) placed.front) placed.after_needs;
     }
 
--- What a port of an orderly list depends on comes before it.
+-- Each port that a port of an orderly list depends on comes before it.
 pub record Before (order : List PortName) (port other : PortName) : Type 0 where
   pub front : List PortName
   pub behind : List PortName
@@ -83,7 +84,7 @@ comes_before system port other (through port' between other' direct later) order
       holds = subst (λ front. IsIn front other) (sym inner.cut) (in_front inner.front inner.behind other inner.holds);
     }
 
--- A port that depends on one which stands in no orderly list stands in none.
+-- A port that depends on one which is in no orderly list is in none.
 pub behind_cycle : (system : System) (port other : PortName) → DependsOn system port other → HasNoOrder system other → HasNoOrder system port
 behind_cycle system port other depends on_it order orderly stands =
     let before = comes_before system port other depends order orderly stands in

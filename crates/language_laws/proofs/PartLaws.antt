@@ -1,4 +1,4 @@
--- The canonical parts of a system say this system.
+-- The canonical parts of a system give this system.
 use Rattle.std.proofs.Common.{◌≡◌, ℕ, List, [], ◌∷◌, ◌++◌, append_assoc, map, Option, Some, None, refl, ap, sym, ◌∙◌}
 use Rattle.std.proofs.lemmas.List.{append-nil}
 use Rattle.std.specs.Option.{option_or}
@@ -22,9 +22,9 @@ use Rattle.unit_tree.specs.declared.unit.State.{State}
 use Rattle.unit_tree.specs.declared.unit.Unit.{Unit}
 use Rattle.list_laws.proofs.Options.{or_none}
 
--- ---- Parts in front of others, of which it is known what they say
+-- ---- Parts before others whose system is known
 
--- What parts of one kind say, where each puts its own in front.
+-- The system of parts of one kind, where each adds its own element before the others.
 listed : {A P S : Type 0} (of : List P → S) (part : A → P) (put : List A → S → S) → ((s : S) → put [] s ≡ s)
     → ((x : A) (others : List P) → of (part x ∷ others) ≡ put (x ∷ []) (of others))
     → ((x : A) (xs : List A) (s : S) → put (x ∷ []) (put xs s) ≡ put (x ∷ xs) s) → (xs : List A) (rest : List P) (s : S) → of rest ≡ s

@@ -1,4 +1,4 @@
--- Where the lines of a text stand where they may, what may be said once is said once.
+-- Where the lines of a text are where they are allowed, what may occur once occurs once.
 use Rattle.std.proofs.Common.{◌≡◌, ℕ, ◌≤◌, Bool, true, false, cond, List, [], ◌∷◌, ◌++◌, append_assoc, length, refl, ap, sym}
 use Rattle.std.proofs.Common.{subst, ◌∙◌, arith}
 use Rattle.std.specs.Prelude.{IsTrue, ⊤, ◌==◌, not, ◌&&◌}
@@ -21,15 +21,15 @@ use Rattle.language_laws.proofs.OpenBlocks.{all_in_text}
 use Rattle.list_laws.proofs.Lists.{all_of_two, any_front, any_behind}
 use Rattle.list_laws.proofs.Truths.{not_true}
 
--- ---- What is said once
+-- ---- What occurs once
 
--- What a unit says of itself once.
+-- What a unit has at most once.
 pub record UnitSaysOnce (all : List UnitPart) : Type 0 where
   pub resolution : length (filter (λ part. unit_part_rank part == 0) all) ≤ 1
   pub max : length (filter (λ part. unit_part_rank part == 8) all) ≤ 1
   pub step : length (filter (λ part. unit_part_rank part == 9) all) ≤ 1
 
--- The same of each unit.
+-- The same for each unit.
 abbrev pub UnitsSayOnce : List Part → Type 0
 UnitsSayOnce [] = ⊤
 UnitsSayOnce (parts.HasUnit name inside ∷ all) = UnitSaysOnce inside × UnitsSayOnce all
@@ -41,7 +41,7 @@ UnitsSayOnce (parts.Zero count ∷ all) = UnitsSayOnce all
 UnitsSayOnce (parts.Rows count ∷ all) = UnitsSayOnce all
 UnitsSayOnce (parts.Samples port ∷ all) = UnitsSayOnce all
 
--- What a text says once.
+-- What a text has at most once.
 pub record TextSaysOnce (all : List Part) : Type 0 where
   pub stop : length (filter (λ part. part_rank part == 3) all) ≤ 1
   pub longest : length (filter (λ part. part_rank part == 4) all) ≤ 1
@@ -49,7 +49,7 @@ pub record TextSaysOnce (all : List Part) : Type 0 where
   pub rows : length (filter (λ part. part_rank part == 6) all) ≤ 1
   pub units : UnitsSayOnce all
 
--- ---- Lines that stand where they may
+-- ---- Lines where they are allowed
 
 placed_behind : (before : Before) (xs ys : List LineForm) → are_placed before (xs ++ ys) ≡ true → are_placed (and_lines before xs) ys ≡ true
 placed_behind before [] ys placed = placed
@@ -119,15 +119,15 @@ part_opens_none (parts.Step lines) =
     all_of_two (λ line. not (opens_unit line)) (flat_map line_forms lines) (form.End ∷ [])
     (steps_open_none (flat_map line_forms lines) (all_step_lines lines)) refl
 
--- A kind of part of which no second one may stand: what is seen before a line holds all lines of the parts before, and a part
--- of the kind shows its key there and may not stand behind it.
+-- A kind of part that may occur at most once: the lines before a line include all lines of the parts before. A part of
+-- the kind has its key there, and is not allowed after another with this key.
 record StandsOnce {P : Type 0} (rank : P → ℕ) (forms : P → List LineForm) (kind : ℕ) (key : LineForm → Bool) (seen : Before → List LineForm) : Type 0 where
   keeps : (before : Before) (part : P) → seen (and_lines before (forms part)) ≡ seen before ++ forms part
   shows : (part : P) → (rank part == kind) ≡ true → list_any key (forms part) ≡ true
   blocked : (before : Before) (part : P) (rest : List LineForm) → (rank part == kind) ≡ true → are_placed before (forms part ++ rest) ≡ true
       → list_any key (seen before) ≡ false
 
--- The lines of the parts behind the first one, in what stands.
+-- The lines of the parts after the first one, among the lines that are there.
 behind_first : {P : Type 0} (forms : P → List LineForm) (before : Before) (part : P) (all : List P) (extra : List LineForm)
     → are_placed before (flat_map forms (part ∷ all) ++ extra) ≡ true → are_placed before (forms part ++ (flat_map forms all ++ extra)) ≡ true
 behind_first forms before part all extra placed = subst (λ lines. are_placed before lines ≡ true) (append_assoc (forms part) (flat_map forms all) extra) placed
@@ -169,7 +169,7 @@ one_at_most {rank = rank} {forms = forms} {kind = kind} {key = key} {seen = seen
     (subst (λ all_seen. list_any key all_seen ≡ true) (sym (rule.keeps before part)) (any_behind key (seen before) (forms part) (rule.shows part is))))
     (one_at_most rule (and_lines before (forms part)) all extra later)
 
--- A line that may stand has no rival.
+-- A line that is allowed has no rival.
 no_rival : (before : Before) (line : LineForm) (rest : List LineForm) → are_placed before (line ∷ rest) ≡ true → has_rival before line ≡ false
 no_rival before line rest placed =
     let stands = and_parts (may_stand before line) (are_placed (and_line before line) rest) placed in

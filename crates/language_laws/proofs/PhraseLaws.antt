@@ -1,4 +1,4 @@
--- Canonical phrases are those of their trees, and the grammar allows them.
+-- Canonical phrases have their trees, and the grammar allows them.
 use Rattle.std.proofs.Common.{◌≡◌, ℕ, Bool, true, false, cond, ◌&&◌, ℤ, pos, negsuc, refl, ap, sym, subst, ◌∙◌, rules, arith}
 use Rattle.std.proofs.lemmas.Bool.{and_parts}
 use Rattle.std.specs.Prelude.{unsigned_abs, not}
@@ -20,7 +20,7 @@ use Rattle.unit_tree.specs.declared.expr.Expr.TheOpen.{Expr-F}
 use Rattle.unit_tree.specs.declared.expr.UnOp.{UnOp}
 use Rattle.unit_tree.proofs.FoldLemmas.{fold-Number, fold-Unary, fold-Binary, fold-Clamp, fold-Choose}
 
--- The weakest level allows every other, and the strongest stands everywhere.
+-- The weakest level allows every other, and the strongest is allowed everywhere.
 pub all_in_whole : (level : Level) → allows Whole level ≡ true
 all_in_whole level = search rules
 
@@ -52,7 +52,7 @@ unsigned_pos : (number : ℤ) → not (is_negative number) ≡ true → pos (uns
 unsigned_pos (pos n) nonnegative = ap pos (omega arith)
 unsigned_pos (negsuc n) nonnegative = absurd (cc)
 
--- An expression that stands somewhere stands wherever its level is allowed.
+-- An expression that is allowed somewhere is allowed wherever its level is.
 stands_where : (asked : Level) (inner : Phrase) → stands Whole inner ≡ true → allows asked (level_of inner) ≡ true → stands asked inner ≡ true
 stands_where asked (phrase.Number digits decimals) so allowed = refl
 stands_where asked (phrase.Truth told) so allowed = refl

@@ -1,4 +1,4 @@
--- What the plain form makes of single nodes of an expression.
+-- The plain form of single nodes of an expression.
 use Rattle.std.proofs.Common.{◌≡◌, ℕ, ◌+◌, ℤ, Bool, List, [], ◌∷◌, map, Option, Some, None, refl, ap, sym, subst, ◌∙◌}
 use Rattle.std.specs.List.{sum}
 use Rattle.std.specs.Option.{option_map}
@@ -23,7 +23,7 @@ use Rattle.unit_tree.specs.declared.line.Line.TheViews.{roll-Line}
 use Rattle.unit_tree.proofs.FoldLemmas.{fold-Number, fold-Truth, fold-Var, fold-Time, fold-Step, fold-Unary, fold-Binary, fold-Clamp, fold-Choose, fold-Absent}
 use Rattle.unit_tree.proofs.FoldLemmas.{fold-Present, fold-Assign, fold-If, fold-Repeat, fold-Accept}
 
--- ---- As it is
+-- ---- Node by node
 
 pub plain-Number : (number : ℤ) (decimals : ℕ) → plain_expression (expr.Number number decimals) ≡ expr.Number number decimals
 plain-Number number decimals = fold-Number Expr node_plain number decimals
@@ -61,9 +61,9 @@ plain-Absent = fold-Absent Expr node_plain
 pub plain-Present : (name : List ℕ) → plain_expression (expr.Present name) ≡ expr.Var (presence_name name)
 plain-Present name = fold-Present Expr node_plain name
 
--- ---- What does not change
+-- ---- Folds that the plain form does not change
 
--- A fold that makes the same of `present(u)` as of a name makes the same of the plain form.
+-- A fold that gives the same for `present(u)` as for a name gives the same for the plain form.
 abbrev pub Same : (A : Type 0) → (Expr-F A → A) → Expr → Type 0
 Same A step value = fold-Expr A step (plain_expression value) ≡ fold-Expr A step value
 
@@ -197,7 +197,7 @@ plain_line_cost = ind-Line SameCost (λ x y is. subst (λ z. SameCost (roll-Line
 
 -- ---- By its choices
 
--- What the fold keeps as the whole is the expression.
+-- The expression that the fold keeps is the whole expression.
 abbrev pub IsWhole : Expr → Type 0
 IsWhole value = (gap : Expr) (change : Expr → Expr) → (fold-Expr Choices (node_choices gap change) value).whole ≡ value
 
@@ -290,10 +290,10 @@ choices-Clamp gap change value low high =
 pub choices-Present : (gap : Expr) (change : Expr → Expr) (name : List ℕ) → with_choices gap change (expr.Present name) ≡ change (expr.Present name)
 choices-Present gap change name = ap (λ c. c.changed) (fold-Present Choices (node_choices gap change) name)
 
--- What the plain form leaves as it is.
+-- Laws of measures that the plain form does not change.
 pub ruleset plain_measures = (plain_depth, plain_cost, plain_line_cost)
 
--- What takes the plain form of a written-out expression.
+-- Laws that give the plain form of an expression, node by node.
 pub ruleset plain_laws = (
   plain-Number,
   plain-Truth,

@@ -226,7 +226,7 @@ pub flat_eight : {A B : Type 0} (f : A → List B) (a b c d e g h i : List A)
     ≡ flat_map f a ++ flat_map f b ++ flat_map f c ++ flat_map f d ++ flat_map f e ++ flat_map f g ++ flat_map f h ++ flat_map f i
 flat_eight f a b c d e g h i = simp flat_map-append refl
 
--- The ports of events stand behind the plain ones of their kind.
+-- The ports of events come after the plain ones of their kind.
 pub regrouped : {A I O : Type 0} (input : I → A) (output : O → A) (a b c d : List A) (e f : List I) (g h : List O) (i j : List A)
     → a ++ b ++ c ++ d ++ map input e ++ map input f ++ map output g ++ map output h ++ i ++ j
     ≡ a ++ b ++ c ++ d ++ map input (e ++ f) ++ [] ++ map output (g ++ h) ++ [] ++ i ++ j
@@ -301,7 +301,7 @@ unit_becomes system unit =
     ap (λ said. parts.HasUnit unit.name (flat_map (plain_unit_part said) (unit_parts unit)) ∷ []) (unit_is unit)
     ∙ ap (λ inside. parts.HasUnit unit.name inside ∷ []) (plain_parts_are unit)
 
--- The plain form, but for what is sampled.
+-- The plain form, except for the sampled outputs.
 abbrev pub plain_system : System → System
 plain_system system = record system {
   units = map plain_unit system.units;

@@ -1,4 +1,5 @@
--- Names of a system in range are words, so that none is that of the port which tells whether an event occurs.
+-- Names of a system in range are words, so none is the name of a port `p?` that is true where an event
+-- occurs.
 use Rattle.std.proofs.Common.{◌≡◌, ℕ, true, false, List, [], ◌∷◌, ◌++◌, map, inl, inr, refl, ap, sym, subst, ◌∙◌}
 use Rattle.std.proofs.lemmas.Bool.{and_parts}
 use Rattle.std.specs.List.{AllByRecursion, flat_map, list_all}
@@ -48,9 +49,9 @@ flat_has f (first ∷ xs) y has = elim (has_either (f first) (flat_map f xs) y h
   | inr later ↦ let rest = flat_has f xs y later in record { one = rest.one; has = inr rest.has; inside = rest.inside }
 ]
 
--- ---- Names of presence
+-- ---- Names of `?` ports
 
--- The name is none of presence.
+-- The name is not that of a `?` port.
 abbrev pub IsPlain : List ℕ → Type 0
 IsPlain name = (other : List ℕ) → name ≡ presence_name other → ⊥
 
@@ -86,7 +87,7 @@ of_output output = record { name = output.name; ty = output.ty; is_event = false
 abbrev pub of_event : EventOut → Port
 of_event event = record { name = event.name; ty = event.ty; is_event = true; needs = event.needs }
 
--- The names of an output and of what it needs are none of presence.
+-- The names of an output and of its needs are not those of `?` ports.
 pub record PlainNames (port : Port) : Type 0 where
   pub name : IsPlain port.name
   pub needs : (need : List ℕ) → Has port.needs need → IsPlain need

@@ -1,4 +1,4 @@
--- Putting into canonical order keeps each entry once.
+-- Sorting into canonical order keeps each entry once.
 use Rattle.std.proofs.Common.{◌≡◌, ℕ, zero, suc, ◌+◌, ◌≤◌, Bool, true, false, cond, List, [], ◌∷◌, ◌++◌, append_assoc, length, take, drop, refl, ap, sym, subst}
 use Rattle.std.proofs.Common.{◌∙◌, arith}
 use Rattle.std.specs.Prelude.{◌==◌}
@@ -12,7 +12,7 @@ use Rattle.unit_tree.specs.Parts.{Part, UnitPart, unit_part_forms, part_forms, t
 use Rattle.unit_tree.specs.SourceLines.{unit_part_rank, part_rank, of_rank, by_rank, each_ranked, unit_lines_in_order, part_lines_in_order, in_canonical_order}
 use Rattle.unit_tree.specs.declared.line_form.LineForm.{LineForm}
 
--- ---- A rank that stands once
+-- ---- A rank that occurs once
 
 abbrev pub not_in : ℕ → List ℕ → Bool
 not_in rank [] = true
@@ -62,7 +62,7 @@ pub once : {A : Type 0} (ranks : List ℕ) (rank : ℕ) (list : List A) (rest : 
 once [] rank list rest told = absurd (cc told)
 once (first ∷ ranks) rank list rest told = once_by (rank == first) rank first ranks list rest refl told (once ranks rank list rest)
 
--- ---- What goes along with parts
+-- ---- Lists with an element for each line of parts
 
 abbrev pub total : {P : Type 0} → (P → ℕ) → List P → ℕ
 total size [] = 0

@@ -2,7 +2,8 @@
 use Rattle.std.proofs.Common.{◌≡◌, ℕ, ◌<◌, ◌≤◌, List, ◌⊎◌, inl, inr, sym, ◌∙◌, arith}
 use Rattle.unit_tree.specs.Texts.{IsFirstBroken, IsUnended, IsRefused}
 
--- Of two lines with rules, each before the other or the same with no greater rule, both are the same.
+-- Two lines with rules are the same, with the same rule, if each comes first: it is before the
+-- other, or is the same line with a rule that is not greater.
 first_of_both : (line by other rule : ℕ) → (line < other) ⊎ ((line ≡ other) × (by ≤ rule)) → (other < line) ⊎ ((other ≡ line) × (rule ≤ by))
     → (line ≡ other) × (by ≡ rule)
 first_of_both line by other rule (inl less) (inl more) = absurd (omega arith)

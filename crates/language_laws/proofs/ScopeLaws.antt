@@ -20,7 +20,7 @@ use Rattle.unit_tree.specs.declared.unit.Unit.{Unit}
 use Rattle.language_laws.proofs.OpenBlocks.{blocks_behind, AreIn, Stay, lines_stay}
 use Rattle.language_laws.proofs.SiteLaws.{line_at, alone_in}
 
--- Each of the sites, behind those before it, has its scope.
+-- Each of the sites, after those before it, has its scope.
 abbrev pub AreScoped : List Block → List Site → Type 0
 AreScoped blocks [] = ⊤
 AreScoped blocks (site ∷ all) = (is_scope_in blocks site.scope site.line ≡ true) × AreScoped (behind blocks site.line) all

@@ -1,4 +1,4 @@
--- The lines of a text, put into canonical order, are the canonical lines of what it says.
+-- The lines of a text, in canonical order, are the canonical lines of its system.
 use Rattle.std.proofs.Common.{◌≡◌, ℕ, ◌≤◌, List, [], ◌∷◌, ◌++◌, map, length, drop, Option, Some, None, refl, ap, sym}
 use Rattle.std.proofs.Common.{◌∙◌}
 use Rattle.std.specs.Prelude.{IsTrue, ◌==◌}

@@ -1,4 +1,4 @@
--- The lines of a unit of a system that is in range and well-formed, with what the rules say of each.
+-- The lines of a unit of a system that is in range and well-formed, with what the rules state of each.
 use Rattle.std.proofs.Common.{◌≡◌, ℕ, zero, suc, false, List, [], ◌∷◌, ◌++◌, map, Some, slice_get, sym, subst}
 use Rattle.std.specs.List.{AllByRecursion, flat_map}
 use Rattle.unit_tree.specs.Canonical.{unit_parts}
@@ -57,7 +57,7 @@ all_pass system ranged kept =
     (unmapped (λ line. AllByRecursion IsWord (names_on line)) (sites_of system)
     (subst (AllByRecursion (λ line. AllByRecursion IsWord (names_on line))) (sym (sites_are system)) ranged.names))
 
--- The lines of a unit, but for its own and its `end`.
+-- The lines of a unit, except its first one and its `end`.
 abbrev pub UnitHolds : (Site → Type 0) → Unit → Type 0
 UnitHolds P unit = Hold P (UnitScope unit) [] (flat_map (headed_unit_part unit) (unit_parts unit))
 

@@ -1,4 +1,4 @@
--- The lines of a unit, put into canonical order, are the canonical lines of what it says.
+-- The lines of a unit, in canonical order, are the canonical lines of the unit.
 use Rattle.std.proofs.Common.{◌≡◌, ℕ, ◌≤◌, Bool, true, false, List, [], ◌∷◌, ◌++◌, append_assoc, map, length, drop, refl, ap, sym}
 use Rattle.std.proofs.Common.{◌∙◌, arith}
 use Rattle.std.specs.Prelude.{◌==◌}
@@ -14,9 +14,9 @@ use Rattle.unit_tree.specs.declared.line_form.LineForm.{LineForm}
 use Rattle.language_laws.proofs.PartLaws.{grouped_ten}
 use Rattle.language_laws.proofs.PartsSaidOnce.{UnitSaysOnce}
 
--- ---- Lines that go along with themselves
+-- ---- The lines of parts, as a list with an element for each line
 
--- Each part with its own lines, whatever comes behind.
+-- Each part with its own lines, whatever follows them.
 pub own_lines : {P : Type 0} (rank : P → ℕ) (forms : P → List LineForm) (inside : P → List LineForm → List LineForm) (all : List P) (extra : List LineForm)
     → each_ranked rank (λ part. length (forms part)) inside all (flat_map forms all ++ extra) ≡ map (λ part. (rank part, inside part (forms part))) all
 own_lines rank forms inside [] extra = refl
@@ -41,7 +41,7 @@ pub of_own : {P : Type 0} (rank : P → ℕ) (lines : P → List LineForm) (all 
 of_own rank lines [] asked = refl
 of_own rank lines (part ∷ all) asked = of_own_by (rank part == asked) rank lines part all asked refl (of_own rank lines all asked)
 
--- Lists that are joined, with equal ones in their places.
+-- Joined lists are equal where their pieces are.
 ten_lists : {a b c d e f g h i j a' b' c' d' e' f' g' h' i' j' : List LineForm} → a ≡ a' → b ≡ b' → c ≡ c' → d ≡ d' → e ≡ e' → f ≡ f' → g ≡ g' → h ≡ h'
     → i ≡ i' → j ≡ j'
     → a ++ (b ++ (c ++ (d ++ (e ++ (f ++ (g ++ (h ++ (i ++ (j ++ []))))))))) ≡ a' ++ (b' ++ (c' ++ (d' ++ (e' ++ (f' ++ (g' ++ (h' ++ (i' ++ (j' ++ [])))))))))

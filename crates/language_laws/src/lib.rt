@@ -1,9 +1,10 @@
 //! Laws of the language, over its definitions alone.
 //!
-//! What the definitions of `unit_tree` say of texts and systems, without code: a text is refused once
-//! ([`texts_are_refused_once`]), a system is judged once ([`each_system_is_judged_once`]), the rules speak of the canonical
-//! lines ([`sites_are_canonical_lines`]), and so on. `specs/Language.antt` states the laws. The lemmas of `proofs/` serve the
-//! crates above, among them those on names (`NameLaws`), parts (`PartLaws`) and plain forms (`PlainLemmas`, `PlainNames`).
+//! What follows from the definitions of `unit_tree` about texts and systems, without code. A text is refused at most
+//! once ([`texts_are_refused_once`]), a system is judged once ([`each_system_is_judged_once`]), the rules are stated
+//! for the canonical lines ([`sites_are_canonical_lines`]), and so on. `specs/Language.antt` states the laws. The
+//! lemmas of `proofs/` are for the crates above, among them those on names (`NameLaws`), parts (`PartLaws`) and plain
+//! forms (`PlainLemmas`, `PlainNames`).
 #![tactic(auto)]
 
 mod laws;

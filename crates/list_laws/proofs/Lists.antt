@@ -1,4 +1,4 @@
--- What holds of each element of a list.
+-- Properties of all elements of a list.
 use Rattle.std.proofs.Common.{◌≡◌, ◌+◌, Bool, true, List, [], ◌∷◌, ◌++◌, map}
 use Rattle.std.proofs.Common.{refl, ap, ◌∙◌}
 use Rattle.std.specs.Prelude.{◌&&◌}
@@ -51,7 +51,7 @@ mapped_all test forms part (x ∷ xs) =
     list_all-append test (forms (part x)) (flat_map forms (map part xs)) ∙ ap (λ rest. list_all test (forms (part x)) && rest)
     (mapped_all test forms part xs)
 
--- one element more at the end
+-- a property of each element holds after one more element with it is added at the end
 pub each_more : {A : Type 0} (P : A → Type 0) (xs : List A) (x : A) → AllByRecursion P xs → P x → AllByRecursion P (xs ++ (x ∷ []))
 each_more P xs x all holds = each_append P xs (x ∷ []) all (holds, tt)
 
@@ -65,7 +65,7 @@ any_front test front behind holds = list_any-append test front behind ∙ or_lef
 pub any_behind : {A : Type 0} (test : A → Bool) (front behind : List A) → list_any test behind ≡ true → list_any test (front ++ behind) ≡ true
 any_behind test front behind holds = list_any-append test front behind ∙ or_right (list_any test front) (list_any test behind) holds
 
--- the empty list is not cut at an element
+-- the empty list has no element at which it could be split
 pub none_cut : {A : Type 0} (front : List A) (x : A) (behind : List A) → [] ≡ front ++ (x ∷ behind) → ⊥
 none_cut [] x behind is = absurd (cc)
 none_cut (y ∷ front) x behind is = absurd (cc)

@@ -1,4 +1,4 @@
--- What a list has, and lists whose elements differ.
+-- Elements of a list, and lists whose elements all differ.
 use Rattle.std.proofs.Common.{◌≡◌, ℕ, zero, suc, ◌+◌, ◌<◌, Bool, true, false, List, [], ◌∷◌, ◌++◌, map, length, Option, Some, inl}
 use Rattle.std.proofs.Common.{inr, refl, ap, sym, subst, ◌∙◌, ◌⊎◌, arith, cond, find, get_or, set, take}
 use Rattle.std.specs.Prelude.{⊤, slice_get}
@@ -74,14 +74,14 @@ pub at_seam : {A : Type 0} (front : List A) (x : A) (behind : List A) → slice_
 at_seam [] x behind = refl
 at_seam (first ∷ front) x behind = at_seam front x behind
 
--- what is read at a place stands there
+-- an element that is read at a place is the one there
 pub read_at : {A : Type 0} (xs : List A) (k : ℕ) (x : A) → k < length xs → x ≡ get_or xs k x → slice_get xs k ≡ Some x
 read_at xs k x within is = slice_get_read xs (length xs) k x refl within is
 
 pub take_next : {A : Type 0} (xs : List A) (k : ℕ) (x : A) → slice_get xs k ≡ Some x → take (k + 1) xs ≡ take k xs ++ (x ∷ [])
 take_next xs k x is = take_more xs k x (slice_get_within xs k x is) ∙ ap (λ y. take k xs ++ (y ∷ [])) (get_or_from_slice_get xs k x x is)
 
--- what is set is there, and what stands elsewhere stays
+-- after a set the place has the new element, and all other places are unchanged
 pub set_there : {A : Type 0} (xs : List A) (k : ℕ) (x : A) → k < length xs → slice_get (set xs k x) k ≡ Some x
 set_there [] k x within = absurd (omega (arith, within))
 set_there (y ∷ ys) zero x within = refl
@@ -94,7 +94,8 @@ set_elsewhere (y ∷ ys) zero (suc j) x differ = refl
 set_elsewhere (y ∷ ys) (suc k) zero x differ = refl
 set_elsewhere (y ∷ ys) (suc k) (suc j) x differ = set_elsewhere ys k j x (λ is. differ (ap suc is))
 
--- what holds of each element by its place, and of one more behind them, holds of all
+-- a property of the element at each place, and of one more at the end, holds at all places of the
+-- longer list
 pub at_push : {A : Type 0} (P : ℕ → A → Type 0) (xs : List A) (x : A) → ((k : ℕ) (y : A) → slice_get xs k ≡ Some y → P k y) → P (length xs) x
     → (k : ℕ) (y : A) → slice_get (xs ++ (x ∷ [])) k ≡ Some y → P k y
 at_push P [] x each last zero y is = subst (P 0) (same_Some x y is) last
@@ -102,7 +103,7 @@ at_push P [] x each last (suc k) y is = absurd (cc)
 at_push P (z ∷ zs) x each last zero y is = each zero y is
 at_push P (z ∷ zs) x each last (suc k) y is = at_push (λ j. P (suc j)) zs x (λ j. each (suc j)) last k y is
 
--- what a place has already, put there, changes nothing
+-- to set a place to the element that it already has changes nothing
 pub set_same : {A : Type 0} (xs : List A) (k : ℕ) (x : A) → slice_get xs k ≡ Some x → set xs k x ≡ xs
 set_same [] k x is = refl
 set_same (first ∷ xs) zero x is = ap (λ y. y ∷ xs) (sym (same_Some first x is))
@@ -112,7 +113,7 @@ pub map_same : {A : Type 0} (f : A → A) (xs : List A) → ((x : A) → Has xs 
 map_same f [] each = refl
 map_same f (x ∷ xs) each = ap (λ y. y ∷ map f xs) (each x (inl refl)) ∙ ap (λ ys. x ∷ ys) (map_same f xs (λ y has. each y (inr has)))
 
--- what a test finds passes it
+-- an element that is found by a test passes the test
 found_by : {A : Type 0} (test : A → Bool) (told : Bool) (first x : A) (rest : Option A) → test first ≡ told → (rest ≡ Some x → test x ≡ true)
     → cond told (Some first) rest ≡ Some x → test x ≡ true
 found_by test true first x rest is later same = subst (λ y. test y ≡ true) (same_Some first x same) is
@@ -122,7 +123,7 @@ pub found_passes : {A : Type 0} (test : A → Bool) (xs : List A) (x : A) → fi
 found_passes test [] x is = absurd (cc)
 found_passes test (first ∷ xs) x is = found_by test (test first) first x (find test xs) refl (found_passes test xs x) is
 
--- of lists whose elements are looked up as mathlib does
+-- the same for lists whose elements are looked up by mathlib's function
 pub all_at : {A : Type 0} (P : A → Type 0) (xs : List A) (k : ℕ) (x : A) → All P xs → get_elem? xs k ≡ some x → P x
 all_at P [] k x all is = absurd (some-ne-none x (sym is))
 all_at P (first ∷ xs) zero x all is = subst P (some-injective first x is) (All-head P first xs all)

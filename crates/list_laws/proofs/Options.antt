@@ -1,4 +1,4 @@
--- What may be there, and results.
+-- Options and results.
 use Rattle.std.proofs.Common.{◌≡◌, Bool, true, false, Option, Some, None, Result, Ok, Err}
 use Rattle.std.proofs.Common.{refl, sym, ◌∙◌}
 use Rattle.std.specs.Prelude.{OnOk, cond, is_some, OnErr}
@@ -9,7 +9,7 @@ pub on_ok : {T E : Type 0} (result : Result T E) (P Q : Type 0) → (P → Q) �
 on_ok (Ok value) P Q from holds = from holds
 on_ok (Err fault) P Q from holds = tt
 
--- what holds in any case holds at an error
+-- a proposition that holds in any case holds on an error
 pub on_err : {T E P : Type 0} (result : Result T E) → P → OnErr result P
 on_err (Ok value) holds = tt
 on_err (Err fault) holds = holds
@@ -27,7 +27,7 @@ pub none_told : {A : Type 0} (found : Option A) → is_some found ≡ false → 
 none_told None is = refl
 none_told (Some x) is = absurd (cc)
 
--- what is put where nothing was comes behind what was there
+-- a value that is stored where no value was is the new option
 pub put_behind : {A : Type 0} (asked stored : Bool) (old new : Option A) (value : A) → asked ≡ stored → (asked ≡ true → old ≡ None)
     → new ≡ cond stored (Some value) old → new ≡ option_or old (cond asked (Some value) None)
 put_behind true true old new value same none put = rw (none refl) put

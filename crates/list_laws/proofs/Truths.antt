@@ -45,7 +45,7 @@ pub and_first : (one other : Bool) → IsTrue (one && other) → IsTrue one
 and_first true other holds = refl
 and_first false other holds = absurd (cc)
 
--- where one holds and not both do, the other does not
+-- where the first holds and not both hold, the second doesn't
 pub other_fails : (one other : Bool) → one ≡ true → (one && other) ≡ false → other ≡ false
 other_fails true other holds none = none
 other_fails false other holds none = absurd (cc)

@@ -1,4 +1,4 @@
--- One level of what is followed, and of what is reached.
+-- One level of `follow`, and one level of `reach`.
 use Rattle.std.proofs.Common.{◌≡◌, ℕ, zero, suc, ◌-◌, Bool, true, false, List, [], refl, ap, ◌∙◌, None, Some, arith, ◌<◌, ◌+◌, ◌++◌, ◌∷◌, length, map, drop, get_or, sym, append_assoc, bytes_eq}
 use Rattle.std.specs.Prelude.{◌&&◌, if◌then◌else◌, slice_get}
 use Rattle.std.specs.Cmp.Lexicographic.{nat_list_eq_equiv}
@@ -28,7 +28,7 @@ step_some nest spot place bind at is =
     (option_map (inside spot.scope spot.port.instance) found)) at
     ∙ ap (option_map (spot_in (inside spot.scope spot.port.instance place))) is
 
--- Where an output leads, one level down.
+-- The output that is one level below an output of a group.
 abbrev pub below_in : Scope → PortName → Below → Spot
 below_in scope port below = record { scope = inside scope port.instance below.place; port = below.line.now.inner }
 
@@ -49,7 +49,7 @@ reach_more nest (suc depth) spots some is =
     let next = distinct [] (flat_map (expand nest) spots) in
     ap (λ test. if test then spots else reach nest depth next) is ∙ ap (λ less. reach nest less next) (one_less depth)
 
--- What an input of a group leads to.
+-- The inner inputs of an input of a group.
 pub expand_group : (nest : Nest) (spot : Spot) (place : ℕ) → place_at nest spot.scope.group spot.port.instance ≡ Some place
     → expand nest spot
     ≡ map (spot_in (inside spot.scope spot.port.instance place))

@@ -22,7 +22,7 @@ pub inside_last : (lists : List (List ℕ)) (one : List ℕ) → inside_of (list
 inside_last [] one = refl
 inside_last (first ∷ lists) one = inside_last lists one
 
--- The places that a number stands for.
+-- The list for the number of a name.
 abbrev pub told : List (List ℕ) → Option ℕ → List ℕ
 told lists number = unwrap_or (option_map (inside_of lists) number) []
 
@@ -117,7 +117,7 @@ any_at test items (place ∷ places) = by (slice_get items place) (any_at test i
     by None rest = rest
     by (Some item) rest = ap (λ more. test item || more) rest
 
--- What passes a test has a name that what doesn't have it can't pass.
+-- A test gives the same on the items with a name, if an item without the name can't pass it.
 pub any_named : {A : Type 0} (test named : A → Bool) → ((item : A) → named item ≡ false → test item ≡ false) → (items : List A)
     → list_any test (filter named items) ≡ list_any test items
 any_named test named apart [] = refl
@@ -132,6 +132,6 @@ pub on_ok : {A E P Q : Type 0} (result : Result A E) → (P → Q) → OnOk resu
 on_ok (Ok done) leads is = leads is
 on_ok (Err why) leads is = tt
 
--- The list of a number, as it stands among the lists.
+-- The list with a number, as it is among the lists.
 pub list_there : (lists : List (List ℕ)) (number : ℕ) (one : List ℕ) → number < length lists → one ≡ get_or lists number one → one ≡ inside_of lists number
 list_there lists number one within is = sym (ap (λ found. unwrap_or found []) (read_at lists number one within is))

@@ -17,7 +17,7 @@ use Rattle.nest_text.specs.declared.nest.Bind.{Bind}
 use Rattle.nest_names.specs.Tables.{FindsNames}
 use Rattle.nest_names.specs.declared.tables.Names.{Names}
 
--- The tables tell of the names up to a place.
+-- The tables of the names up to a place.
 pub record ToldSoFar (names : List (List ℕ)) (tables : Names) (place : ℕ) : Type 0 where
   pub first : (q : List ℕ) → option_or (found_in tables.first q) (position_from (bytes_eq q) place (drop place names)) ≡ first_place names q
   pub some : (q : List ℕ) → is_some (found_in tables.first q) ≡ nat_lt 0 (count_by (bytes_eq q) (take place names))
@@ -130,7 +130,7 @@ some_among (name ∷ names) q place = by (bytes_eq q name) (some_among names q (
     by true rest = refl
     by false rest = rest
 
--- What stands at the first place of a name is the first that has it.
+-- The element at the first place of a name is the first one that has it.
 pub found_none : {D : Type 0} (name : D → List ℕ) (all all' : List D) (q : List ℕ) (found : Option ℕ) → all ≡ all' → found ≡ first_place (map name all) q
     → found ≡ None → None ≡ find (λ one. bytes_eq (name one) q) all'
 found_none name all all' q found same is none =

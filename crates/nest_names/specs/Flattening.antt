@@ -1,7 +1,7 @@
--- The flat system of a nest: components alone, with the connections that lead from component to component.
+-- The flat system of a nest: components alone, with the connections from component to component.
 --
--- An instance stands in a scope: that of `main`, or that of an instance of a group. A prefix tells in which: the names of the instances
--- around it, each with a `_` behind it.
+-- An instance is in a scope: that of `main`, or that of an instance of a group. The prefix of the scope has the names
+-- of the instances around it, each with a `_` after it.
 use Rattle.std.specs.Prelude.{ℕ, zero, suc, Bool, true, false, ◌&&◌, ◌==◌, is_none, List, [], ◌∷◌, ◌++◌, map, find, Option, Some, None, if◌then◌else◌, slice_get}
 use Rattle.std.specs.List.{filter, flat_map, list_all, list_any}
 use Rattle.std.specs.Option.{option_and_then, option_map, unwrap_or}
@@ -24,7 +24,7 @@ use Rattle.nest_names.specs.declared.scope.Spot.{Spot}
 abbrev pub group_place : Nest → List ℕ → Option ℕ
 group_place nest name = first_place (map (λ group. group.name) nest.groups) name
 
--- What a group at a place has; nothing where there is none.
+-- The list of the group at a place; empty where there is none.
 abbrev pub of_group : {A : Type 0} → Nest → (Group → List A) → ℕ → List A
 of_group nest part place = unwrap_or (option_map part (slice_get nest.groups place)) []
 
@@ -50,23 +50,23 @@ instance_among instances name = find (λ instance. bytes_eq instance.name name) 
 abbrev pub top : Scope
 top = record { prefix = []; group = None }
 
--- The scope inside an instance at a place of the groups.
+-- The scope inside an instance of the group at a place.
 abbrev pub inside : Scope → List ℕ → ℕ → Scope
 inside scope name place = record { prefix = scope.prefix ++ (name ++ 95 ∷ []); group = Some place }
 
--- The scope inside an instance, where it is one of a group.
+-- The scope inside an instance, if its unit is a group.
 abbrev pub scope_of : Nest → Scope → Instance → Option Scope
 scope_of nest scope instance = option_map (inside scope instance.name) (group_place nest instance.unit)
 
--- The place of the group that the instance of a name is one of, and the scope inside it.
+-- The place of the group of the instance with a name, and the scope inside it.
 abbrev pub place_at : Nest → Option ℕ → List ℕ → Option ℕ
 place_at nest group name = option_and_then (λ instance. group_place nest instance.unit) (instance_among (instances_of nest group) name)
 
 abbrev pub scope_at : Nest → Scope → List ℕ → Option Scope
 scope_at nest scope name = option_map (inside scope name) (place_at nest scope.group name)
 
--- How many scopes stand in each other at most. A name of 32 bytes has a `_` for each instance around it, so deeper in no name is short
--- enough.
+-- How deep scopes may be nested. A flat name has a `_` for each instance around it, and at most 32 bytes, so no deeper
+-- name is short enough.
 abbrev pub levels : ℕ
 levels = 33
 
@@ -75,7 +75,7 @@ levels = 33
 abbrev pub named_in : Scope → Instance → Instance
 named_in scope instance = record instance { name = scope.prefix ++ instance.name }
 
--- The components in a scope, depth first: an instance of a unit, and in place of one of a group those inside it.
+-- The components in a scope, depth first: an instance of a unit itself, and for an instance of a group those inside it.
 abbrev pub leaves : Nest → ℕ → Scope → List Instance
 leaves nest zero scope = map (named_in scope) (instances_of nest scope.group)
 leaves nest (suc depth) scope =
@@ -98,17 +98,17 @@ ins_in nest scope port = filter (λ bind. bytes_eq bind.port port) (binds_of nes
 abbrev pub out_in : Nest → Scope → List ℕ → Option Bind
 out_in nest scope port = find (λ bind. bytes_eq bind.port port) (binds_of nest (λ group. group.outs) scope.group)
 
--- An output of a group, one level down.
+-- From an output of a group to the inner output of its `out` line, one level down.
 abbrev pub step_down : Nest → Spot → Option Spot
 step_down nest spot =
     option_and_then (λ scope. option_map (spot_in scope) (out_in nest scope spot.port.port)) (scope_at nest spot.scope spot.port.instance)
 
--- An output, followed down the `out` lines to a component's.
+-- The output of a component that is reached from an output by `out` lines, with at most `depth` of them.
 abbrev pub follow : Nest → ℕ → Spot → Spot
 follow nest zero spot = spot
 follow nest (suc depth) spot = unwrap_or (option_map (follow nest depth) (step_down nest spot)) spot
 
--- What an input leads to: the inner inputs of its `in` lines, in their order. That of a component stays.
+-- From an input of a group to the inner inputs of its `in` lines, in their order. An input of a component gives itself.
 abbrev pub expand : Nest → Spot → List Spot
 expand nest spot =
     unwrap_or (option_map (λ scope. map (spot_in scope) (ins_in nest scope spot.port.port)) (scope_at nest spot.scope spot.port.instance)) (spot ∷ [])
@@ -124,12 +124,13 @@ same_group _ _ = false
 abbrev pub same_spot : Spot → Spot → Bool
 same_spot one other = bytes_eq one.scope.prefix other.scope.prefix && (same_group one.scope.group other.scope.group && same_port one.port other.port)
 
--- Each port once, at its first place, but for those that are kept already.
+-- Each port once, at its first place, without those that are kept already.
 abbrev pub distinct : List Spot → List Spot → List Spot
 distinct kept [] = []
 distinct kept (spot ∷ spots) = if list_any (same_spot spot) kept then distinct kept spots else (spot ∷ distinct (kept ++ (spot ∷ [])) spots)
 
--- The inputs of components that inputs reach, level by level. Several ways to one input are one.
+-- The inputs of components that are reached from inputs by `in` lines, level by level. An input that is reached several
+-- times is listed once.
 abbrev pub reach : Nest → ℕ → List Spot → List Spot
 reach nest zero spots = spots
 reach nest (suc depth) spots =
@@ -137,7 +138,7 @@ reach nest (suc depth) spots =
 
 -- ---- Connections
 
--- What a connection of a scope becomes: one for each input that it reaches.
+-- What a connection of a scope becomes: one connection for each input that it reaches.
 abbrev pub flat_wire : Nest → Scope → Wire → List Wire
 flat_wire nest scope wire =
     map

@@ -1,4 +1,4 @@
--- Names that stand more than once, and which ports units and groups have.
+-- Names that occur more than once, and which ports units and groups have.
 use Rattle.std.specs.Prelude.{ℕ, Bool, false, nat_lt, List, map}
 use Rattle.std.specs.List.{count_by, list_any}
 use Rattle.std.specs.Option.{option_map, unwrap_or}
@@ -10,16 +10,16 @@ use Rattle.nest_text.specs.declared.nest.Group.{Group}
 use Rattle.nest_text.specs.declared.nest.Nest.{Nest}
 use Rattle.nest_names.specs.Flattening.{group_place, of_group}
 
--- The name stands more than once.
+-- The name occurs more than once.
 abbrev pub stands_again : List (List ℕ) → List ℕ → Bool
 stands_again names name = nat_lt 1 (count_by (bytes_eq name) names)
 
--- An `out` name stands twice.
+-- The name of some `out` line occurs twice.
 abbrev pub says_out_twice : List Bind → Bool
 says_out_twice binds = list_any (λ bind. stands_again (map (λ other. other.port) binds) bind.port) binds
 
--- Whether this unit or group has the port: of a group what its `in`, or `out`, lines name, and of a unit its inputs, or outputs,
--- events too.
+-- Whether this unit or group has the port: one of the `in` or `out` lines of a group, or one of the inputs or outputs
+-- of a unit, also of events.
 abbrev pub has_port : Nest → (Unit → List (List ℕ)) → (Group → List Bind) → List ℕ → List ℕ → Bool
 has_port nest of_unit binds unit port =
     unwrap_or (option_map (λ place. is_among (map (λ bind. bind.port) (of_group nest binds place)) port) (group_place nest unit))

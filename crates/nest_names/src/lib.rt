@@ -1,10 +1,11 @@
-//! Nests by names: tables of what a nest names, and scopes, in which its names stand.
+//! The names of nests: tables of the names in a nest, and the scopes that they are in.
 //!
-//! The layers above use [`NestNames`], which answers as the nest does, [`Scope`] and [`Spot`], and what is followed from scope to scope:
-//! [`follow`] goes down from an output of a group to a component's, [`reach`] from an input to those of components.
+//! The layers above use [`NestNames`], which contracts see as the nest, [`Scope`] and [`Spot`], and the functions that
+//! go from scope to scope: [`follow`] goes down from an output of a group to a component's, [`reach`] from an input to
+//! those of components.
 //!
-//! Definitions: `specs/Flattening.antt` (scopes, ports in scopes, and the flat system), `specs/GroupPorts.antt` (which ports units and
-//! groups have) and `specs/Tables.antt` (what tables of names tell).
+//! Definitions: `specs/Flattening.antt` (scopes, ports in scopes, and the flat system), `specs/GroupPorts.antt` (which
+//! ports units and groups have) and `specs/Tables.antt` (the contents of tables of names).
 #![tactic(auto)]
 
 mod lists;

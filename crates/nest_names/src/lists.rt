@@ -1,4 +1,4 @@
-//! Places by names, where several may have one name.
+//! Places by names, where several may have the same name.
 ghost use Rattle.std.specs.Prelude.{◌≡◌, ◌∷◌, ◌++◌, ◌<◌, ◌==◌, [], ℕ, List, OnOk, bytes_eq, if◌then◌else◌, length, map};
 ghost use Rattle.unit_names.specs.Found.{found_in};
 ghost use Rattle.nest_names.specs.Tables.{AreNumbered, inside_of, places_of};
@@ -8,14 +8,15 @@ use fixed_words::NoMemory;
 use std::alloc::Global;
 use std::collections::BTreeMap;
 
-/// For each name the places that have it, in their order: a list for each name, by its number.
+/// For each name the places that have it, in their order. Each name has a number, and the list with
+/// this number.
 #[derive(Drop)]
 pub struct PlacesByName<'n> {
     pub(crate) numbers: Places<'n>,
     pub(crate) lists: Vec<Vec<usize>>,
 }
 
-/// Puts a place behind those of the list of a number.
+/// Adds a place at the end of the list with a number.
 fn put_at(lists: &mut Vec<Vec<usize>>, number: usize, place: usize) -> Result<(), NoMemory>
     requires { number < length lists.old.items }
     ensures long { OnOk result (length lists.new.items ≡ length lists.old.items) }

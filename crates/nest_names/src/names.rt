@@ -144,7 +144,7 @@ fn names_of_groups<'n>(alloc: Global, groups: &'n [Group]) -> Result<Vec<GroupNa
 }
 
 impl<'n> NestNames<'n> {
-    /// The tables of a nest.
+    /// Makes the tables of a nest. The only error is that there is no memory.
     pub fn new(alloc: Global, nest: &'n Nest) -> Result<NestNames<'n>, NoMemory>
         ensures { IfOk result (λ names. names ≡ nest.now) }
     {
@@ -282,7 +282,7 @@ impl<'n> NestNames<'n> {
         }
     }
 
-    /// The place of the group that the instance of a name is one of.
+    /// The place of the group of the instance with a name; none where its unit is not a group.
     pub fn place_at(&self, group: Option<usize>, name: &[u8]) -> Option<usize>
         ensures { result ≡ place_at self.now group name.now }
     {

@@ -15,16 +15,16 @@ use nest_text::Bind;
 use std::alloc::Global;
 use unit_tree::{Name, PortName};
 
-/// Where an instance stands: in `main`, or in an instance of a group.
+/// The scope of an instance: `main`, or an instance of a group.
 #[derive(Debug, Drop)]
 pub struct Scope {
-    /// The names of the instances around it, each with a `_` behind it.
+    /// The names of the instances around it, each with a `_` after it.
     pub prefix: Name,
     /// The place of the group; none in `main`.
     pub group: Option<usize>,
 }
 
-/// How many scopes stand in each other at most.
+/// How deep scopes may be nested.
 pub const LEVELS: usize = 33;
 
 /// The scope of `main`.
@@ -37,14 +37,14 @@ pub fn top(alloc: Global) -> Scope
     }
 }
 
-/// A port of an instance that stands in a scope.
+/// A port of an instance in a scope.
 #[derive(Debug, Drop)]
 pub struct Spot {
     pub scope: Scope,
     pub port: PortName,
 }
 
-/// Bytes behind others.
+/// Two byte strings joined.
 fn joined(alloc: Global, front: &[u8], behind: &[u8]) -> Result<Name, NoMemory>
     ensures { IfOk result (λ made. made ≡ front.now ++ behind.now) }
 {
@@ -60,14 +60,14 @@ pub fn flat_name(alloc: Global, scope: &Scope, name: &Name) -> Result<Name, NoMe
     joined(alloc, scope.prefix.as_slice(), name.as_slice())
 }
 
-/// The same name.
+/// A copy of a name.
 pub fn copied_name(alloc: Global, name: &Name) -> Result<Name, NoMemory>
     ensures { IfOk result (λ made. made ≡ name.now) }
 {
     Ok(List::from_slice(alloc, name.as_slice())?)
 }
 
-/// The same port.
+/// A copy of a port.
 pub fn copied_port(alloc: Global, port: &PortName) -> Result<PortName, NoMemory>
     ensures { IfOk result (λ made. made ≡ port.now) }
 {
@@ -76,7 +76,7 @@ pub fn copied_port(alloc: Global, port: &PortName) -> Result<PortName, NoMemory>
     Ok(PortName { instance, port })
 }
 
-/// The same scope.
+/// A copy of a scope.
 pub fn copied_scope(alloc: Global, scope: &Scope) -> Result<Scope, NoMemory>
     ensures { IfOk result (λ made. made ≡ scope.now) }
 {
@@ -86,7 +86,7 @@ pub fn copied_scope(alloc: Global, scope: &Scope) -> Result<Scope, NoMemory>
     })
 }
 
-/// A port in a scope, which is kept as it is.
+/// A port in a scope, which is moved.
 fn port_in(alloc: Global, scope: Scope, port: &PortName) -> Result<Spot, NoMemory>
     ensures { IfOk result (λ made. made ≡ record { scope = scope; port = port.now }) }
 {
@@ -102,7 +102,7 @@ pub fn spot_of(alloc: Global, scope: &Scope, port: &PortName) -> Result<Spot, No
     port_in(alloc, scope, port)
 }
 
-/// The scope inside an instance of the group at a place, in place of the one around it.
+/// The scope inside an instance of the group at a place, made from the scope around it.
 fn entered(scope: Scope, name: &Name, place: usize) -> Result<Scope, NoMemory>
     ensures { IfOk result (λ made. made ≡ inside scope name.now place) }
 {
@@ -132,7 +132,7 @@ pub fn flat_port(alloc: Global, spot: &Spot) -> Result<PortName, NoMemory>
     Ok(PortName { instance, port })
 }
 
-/// Where an output of a group leads, one level down.
+/// Where one step down from an output of a group ends.
 #[derive(Clone, Copy)]
 struct Below<'n> {
     /// The place of the group.
@@ -141,7 +141,7 @@ struct Below<'n> {
     line: &'n Bind,
 }
 
-/// An output of a group, one level down.
+/// From an output of a group to the inner output of its `out` line, one level down.
 fn step_down<'n>(names: &NestNames<'n>, scope: &Scope, port: &PortName) -> Option<Below<'n>>
     ensures { option_map (λ below. record { scope = inside scope.now port.now.instance below.place; port = below.line.now.inner }) result
         ≡ step_down names.now (record { scope = scope.now; port = port.now }) }
@@ -151,7 +151,7 @@ fn step_down<'n>(names: &NestNames<'n>, scope: &Scope, port: &PortName) -> Optio
     Some(Below { place, line })
 }
 
-/// An output, followed down the `out` lines to a component's, by so many levels at most.
+/// The output of a component that is reached from an output by `out` lines, with at most `depth` of them.
 pub fn follow(
     alloc: Global,
     names: &NestNames<'_>,
@@ -187,7 +187,7 @@ fn are_components(names: &NestNames<'_>, spots: &[Spot]) -> bool
     spots.iter().all(|spot| is_component(names, spot))
 }
 
-/// Puts the inner port of a line behind others, where there is a line.
+/// Appends the inner port of a line, if there is a line.
 pub fn put_bind(
     alloc: Global,
     scope: &Scope,
@@ -203,7 +203,7 @@ pub fn put_bind(
     Ok(())
 }
 
-/// Puts what an input leads to behind others.
+/// Appends the inner inputs of an input of a group, or the input of a component itself.
 fn put_expanded(
     alloc: Global,
     names: &NestNames<'_>,
@@ -272,7 +272,8 @@ fn is_kept(spot: &Spot, spots: &[Spot], places: &[usize]) -> bool
     places.iter().any(|place| is_at(spot, spots, *place))
 }
 
-/// Each port once, at its first place. Those that are kept are found by their own names, so that few are compared.
+/// Each port once, at its first place. Each port is compared only with the kept ports of the same name, which are
+/// few.
 pub fn distinct(alloc: Global, spots: &[Spot]) -> Result<List<Spot>, NoMemory>
     ensures { IfOk result (λ kept. kept ≡ distinct [] spots.now) }
 {
@@ -290,7 +291,7 @@ pub fn distinct(alloc: Global, spots: &[Spot]) -> Result<List<Spot>, NoMemory>
     Ok(kept)
 }
 
-/// What inputs lead to, each port once.
+/// Inputs, each replaced by its inner inputs, with each port once.
 fn one_level(alloc: Global, names: &NestNames<'_>, spots: &[Spot]) -> Result<List<Spot>, NoMemory>
     ensures { IfOk result (λ made. made ≡ distinct [] (flat_map (expand names.now) spots.now)) }
 {
@@ -301,7 +302,7 @@ fn one_level(alloc: Global, names: &NestNames<'_>, spots: &[Spot]) -> Result<Lis
     distinct(alloc, expanded.as_slice())
 }
 
-/// The inputs of components that inputs reach, by so many levels at most.
+/// The inputs of components that are reached from inputs by `in` lines, over at most `depth` levels.
 pub fn reach(
     alloc: Global,
     names: &NestNames<'_>,

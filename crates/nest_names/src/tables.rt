@@ -1,4 +1,4 @@
-//! Tables of names: where each stands first, and whether it stands again.
+//! Tables of names: the first place of each name, and whether it occurs again.
 ghost use Rattle.std.specs.Prelude.{◌≡◌, ◌||◌, ◌&&◌, ℕ, List, Some, None, OnOk, IfOk, map, bytes_eq, if◌then◌else◌, find, is_some, slice_get};
 ghost use Rattle.std.specs.List.{list_any};
 ghost use Rattle.std.specs.Option.{option_map, option_or};
@@ -18,21 +18,21 @@ use unit_tree::Instance;
 /// Places by name.
 pub type Places<'n> = BTreeMap<&'n [u8], usize>;
 
-/// Where each of some names stands first, and where a name that stands more than once stands again.
+/// The first place of each name, and for a name that occurs more than once its second place.
 #[derive(Drop)]
 pub struct Names<'n> {
     pub(crate) first: Places<'n>,
     pub(crate) again: Places<'n>,
 }
 
-/// What is noted under a name.
+/// The place of a name in a table.
 pub fn noted(places: &Places<'_>, name: &[u8]) -> Option<usize>
     ensures { result ≡ found_in places.now name.now }
 {
     places.get(name).copied()
 }
 
-/// Notes a name, where it was not noted before.
+/// Adds a name, if it is not there already.
 pub fn note<'n>(places: &mut Places<'n>, name: &'n [u8], place: usize) -> Result<(), NoMemory>
     ensures { OnOk result ((q : List ℕ) →
         found_in places.new q ≡ option_or (found_in places.old q) (if bytes_eq q name.now then Some place else None)) }
@@ -58,7 +58,7 @@ impl<'n> Names<'n> {
         note(&mut self.first, name, place)
     }
 
-    /// The tables of names.
+    /// Makes the tables of names.
     fn of(alloc: Global, names: &[&'n [u8]]) -> Result<Names<'n>, NoMemory>
         ensures { IfOk result (FindsNames (map (λ name. name.now) names.now)) }
     {
@@ -79,7 +79,7 @@ impl<'n> Names<'n> {
         noted(&self.first, name)
     }
 
-    /// Whether a name stands more than once.
+    /// Whether a name occurs more than once.
     fn is_again(&self, name: &[u8]) -> bool
         ensures { result ≡ is_some (found_in self.now.again name.now) }
     {
@@ -87,7 +87,7 @@ impl<'n> Names<'n> {
     }
 }
 
-/// What stands at a place.
+/// The element at a place.
 pub fn at<T>(items: &[T], place: usize) -> Option<&T>
     ensures { option_map (λ found. found.now) result ≡ slice_get items.now place }
 {
@@ -219,7 +219,7 @@ impl<'n> BindNames<'n> {
         self.names.first(port).is_some()
     }
 
-    /// Whether two lines have one port.
+    /// Whether two lines have the same port.
     pub fn says_twice(&self) -> bool
         ensures { result ≡ says_out_twice self.now }
     {

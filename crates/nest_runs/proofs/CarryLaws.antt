@@ -1,4 +1,5 @@
--- Where values go along the lines of a nest, an input of a component has just what the flat system's connections give it.
+-- Where values follow the lines of a nest, an input of a component has exactly what the flat system's connections give
+-- it.
 use Rattle.std.proofs.Common.{◌≡◌, ℕ, zero, suc, ◌<◌, List, [], ◌∷◌, map, length, Option, Some, None, inl, inr, refl, sym}
 use Rattle.std.proofs.Common.{ap, subst, ◌∙◌, arith}
 use Rattle.std.specs.Prelude.{slice_get, IsSome}
@@ -29,7 +30,7 @@ use Rattle.nest_runs.proofs.WireLaws.{Connection, ends, source, component_port, 
 use Rattle.nest_runs.proofs.WireLaws.{among_all}
 use Rattle.nest_runs.proofs.WireLaws.{ends_keep, behind, becomes, wire_to}
 
--- What a list of ports has at the place of one of them.
+-- The element of a list at the place of one of the ports.
 mapped_at : {A B : Type 0} (f : A → B) (xs : List A) (place : ℕ) (x : A) → slice_get xs place ≡ Some x → slice_get (map f xs) place ≡ Some (f x)
 mapped_at f [] place x is = absurd (cc)
 mapped_at f (first ∷ xs) zero x is = let same : first ≡ x = cc in ap (λ y. Some (f y)) same
@@ -47,7 +48,7 @@ is_there (Some x) some = (x, refl)
 module _ (nest : Nest) (sound : IsSound nest) (values : PortValues) (carried : AreCarried nest values) where
   -- ---- Along the lines
 
-  -- An output has what the component's has that it is made of.
+  -- An output has the value of the component's output that it comes from.
   followed : (depth at : ℕ) (spot : Spot) → IsScopeAt nest at spot.scope
       → values.outs (port_at nest spot) ≡ values.outs (port_at nest (follow nest depth spot))
   followed zero at spot is = refl
@@ -80,7 +81,7 @@ module _ (nest : Nest) (sound : IsSound nest) (values : PortValues) (carried : A
         inner_is = refl;
       }) has)
 
-  -- An input that a connection leads to has what the connection's source has.
+  -- An input that a connection reaches has the value of the connection's source.
   pub carried_to : (one : Connection) (count : ℕ) (to : Spot) → Has (all nest sound) one → Way nest count one.to to
       → values.ins (port_at nest to) ≡ Some (values.outs (OfComponent (source nest one)))
   carried_to one count to has way =
@@ -134,7 +135,7 @@ module _ (nest : Nest) (sound : IsSound nest) (values : PortValues) (carried : A
         is = sym line.inner_is;
       }
 
-  -- The prefix of a scope is longer than that of the one around it.
+  -- The prefix of a scope is longer than that of the scope around it.
   longer : (spot next : Spot) → Step nest (λ group. group.ins) spot next → length spot.scope.prefix < length next.scope.prefix
   longer spot next step =
       let more = name_long spot.scope.prefix spot.port.instance in
@@ -174,7 +175,7 @@ module _ (nest : Nest) (sound : IsSound nest) (values : PortValues) (carried : A
 
   -- ---- What inputs of components have
 
-  -- What the first of some outputs has, where there is one.
+  -- The value of the first of some outputs, if there is one.
   abbrev pub first_given : List PortName → Option (Option Signal)
   first_given [] = None
   first_given (port ∷ others) = Some (signal_in (output_signals nest values) (place_of (flat nest sound) port))
@@ -211,7 +212,7 @@ module _ (nest : Nest) (sound : IsSound nest) (values : PortValues) (carried : A
   origin_by (OfComponent port) given has = origin_of port given has
   origin_by (OfGroup spot) given has = origin_of_group (suc (length spot.scope.prefix)) spot given (omega arith) has
 
-  -- The component's output that a connected input has its value of.
+  -- The component's output that gives a connected input its value.
   pub record Source (port : NestPort) (given : Option Signal) : Type 0 where
     pub origin : Origin port
     pub is : given ≡ values.outs (OfComponent (source nest origin.one))
@@ -228,7 +229,7 @@ module _ (nest : Nest) (sound : IsSound nest) (values : PortValues) (carried : A
             (sym has ∙ ap values.ins (sym origin.is) ∙ carried_to origin.one origin.count origin.last origin.has origin.way);
       }
 
-  -- An output of a group has what a component's has.
+  -- An output of a group has the value of a component's output.
   pub group_output : (outer inner : NestPort) (line : LeadsOut nest outer inner)
       → values.outs outer ≡ values.outs (OfComponent (flat_port (follow nest levels line.spot)))
   group_output outer inner line =
@@ -243,7 +244,7 @@ module _ (nest : Nest) (sound : IsSound nest) (values : PortValues) (carried : A
 
 module _ (nest : Nest) (sound : IsSound nest) (one other : PortValues) (carried : AreCarried nest one) (others : AreCarried nest other)
     (same : (port : PortName) → one.outs (OfComponent port) ≡ other.outs (OfComponent port)) where
-  -- An input that is connected by one assignment has the same by the other.
+  -- An input that is connected in one assignment has the same value in the other.
   connected_too : (port : NestPort) (given : Option Signal) → one.ins port ≡ Some given → other.ins port ≡ Some given
   connected_too port given has =
       let from = source_of_input nest sound one carried port given has in

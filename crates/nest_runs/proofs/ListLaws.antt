@@ -1,4 +1,4 @@
--- What lists have, what is found in them, and what tests of all and of any tell.
+-- Elements of lists, what is found in them, and the results of tests of all and of any.
 use Rattle.std.proofs.Common.{◌≡◌, Bool, true, false, List, [], ◌∷◌, Some, inl, inr, refl, sym, ap, ◌∙◌, ◌⊎◌, cond, find}
 use Rattle.std.specs.Prelude.{Contains, ◌||◌}
 use Rattle.std.specs.List.{filter, list_all, list_any}

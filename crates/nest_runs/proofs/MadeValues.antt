@@ -1,4 +1,4 @@
--- What the ports of a nest have by the signals of its flat system's outputs.
+-- The values at the ports of a nest, from the signals of its flat system's outputs.
 use Rattle.std.proofs.Common.{◌≡◌, ℕ, zero, suc, ◌+◌, ◌≤◌, Bool, true, false, List, [], ◌∷◌, Option, Some, inl, inr, refl, sym, ap, subst, ◌∙◌}
 use Rattle.std.proofs.Common.{arith, cond, find}
 use Rattle.std.specs.Prelude.{if◌then◌else◌, is_some}
@@ -44,7 +44,7 @@ ports_same : (one : NestPort) → same_nest_port one one ≡ true
 ports_same (OfComponent one) = same_port_of one one refl
 ports_same (OfGroup one) = spots_same one
 
--- ---- The ports on the ways of an input
+-- ---- The ports on the paths of an input
 
 module _ (nest : Nest) where
   abbrev ways : ℕ → Spot → List Spot
@@ -85,7 +85,7 @@ module _ (nest : Nest) (sound : IsSound nest) (signals : Signals) where
   made_outs (OfComponent port) = given port
   made_outs (OfGroup spot) = given (flat_port (follow nest levels spot))
 
-  -- Whether a connection leads to the port.
+  -- Whether a connection reaches the port.
   abbrev leads_to : NestPort → Connection → Bool
   leads_to port one = list_any (λ spot. same_nest_port port (port_at nest spot)) (ways nest levels one.to)
 
@@ -118,7 +118,7 @@ module _ (nest : Nest) (sound : IsSound nest) (signals : Signals) where
 
   -- ---- Inputs
 
-  -- A connection that leads to a port, and the way there.
+  -- A connection that reaches a port, and the path to it.
   record Leading (port : NestPort) (one : Connection) : Type 0 where
     spot : Spot
     count : ℕ
@@ -131,7 +131,7 @@ module _ (nest : Nest) (sound : IsSound nest) (signals : Signals) where
       let way = way_of nest levels one.to found.one found.has in
       record { spot = found.one; count = way.count; way = way.way; is = same_ports port (port_at nest found.one) found.passes }
 
-  -- Where one leads to a port, the port has what the source of that has.
+  -- If a connection reaches a port, the port has the value of its source.
   found_by : (port : NestPort) (one : Connection) (count : ℕ) (spot : Spot) → Has (all nest sound) one → Way nest count one.to spot
       → port_at nest spot ≡ port → made_ins port ≡ Some (given (source nest one))
   found_by port one count spot has way is =
@@ -155,7 +155,7 @@ module _ (nest : Nest) (sound : IsSound nest) (signals : Signals) where
       (contained (wires_of nest line.scope.group) line.wire line.stands) in
       found_by to one 0 one.to has refl (sym line.to_is) ∙ ap Some (sym (outs_of_port one.from) ∙ sym (ap made_outs line.from_is))
 
-  -- The connection that a port has its value by.
+  -- The connection that gives a port its value.
   record By (port : NestPort) (value : Option Signal) : Type 0 where
     one : Connection
     has : Has (all nest sound) one

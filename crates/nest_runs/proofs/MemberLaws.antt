@@ -1,4 +1,5 @@
--- The components of a nest see of what their inputs have what the members of its flat system see of what outputs have.
+-- The components of a nest read from the values of their inputs what the members of its flat system read from those of
+-- outputs.
 use Rattle.std.proofs.Common.{◌≡◌, ℕ, ◌+◌, List, [], ◌∷◌, ◌++◌, map, length, Option, Some, None, refl, sym, ap, ap₂, subst, ◌∙◌}
 use Rattle.std.proofs.Common.{append_assoc}
 use Rattle.std.specs.Prelude.{slice_get, unwrap_or}
@@ -31,7 +32,7 @@ use Rattle.nest_runs.proofs.WireLaws.{flat}
 
 -- ---- Places of one's own
 
--- What is read at the numbers of items from where the part that is made of them begins.
+-- The numbers of items, read from where the part that belongs to them begins.
 read_own : {A : Type 0} (f : A → Option Signal) (items : List A) (all before later : Signals) → all ≡ before ++ (map f items ++ later)
     → map (λ (counted : ℕ × A). signal_in all counted.0) (enumerate_from (length before) items) ≡ map f items
 read_own f [] all before later is = refl

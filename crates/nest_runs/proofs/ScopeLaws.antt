@@ -1,4 +1,5 @@
--- Scopes of a nest that breaks no rule of groups: how deep they are, and that the ports which their lines name at groups are there.
+-- Scopes of a nest that breaks no rule of groups: how deep they are, and that the ports at groups that their lines name
+-- exist.
 use Rattle.std.proofs.Common.{◌≡◌, ℕ, zero, suc, ◌+◌, ◌-◌, ◌<◌, ◌≤◌, Bool, true, false, List, [], ◌∷◌, ◌++◌, map, length, Option, Some, None, inl}
 use Rattle.std.proofs.Common.{inr, refl, sym}
 use Rattle.std.proofs.Common.{ap, subst, ◌∙◌, arith}
@@ -40,7 +41,7 @@ use Rattle.nest_runs.proofs.ListLaws.{contained, contains, fails_any, found_has}
 
 -- ---- Small things
 
--- What is made of something that may be there was made of it.
+-- A result of something that may be missing comes from it.
 pub record Made {A B : Type 0} (f : A → B) (given : Option A) (made : B) : Type 0 where
   pub one : A
   pub there : given ≡ Some one
@@ -99,7 +100,7 @@ module _ (nest : Nest) where
         leads = ap (option_map (inside scope led.one.name)) led.is ∙ ap (λ n. Some (inside scope n made.one)) named ∙ ap Some made.is;
       }
 
-  -- A scope is as deep as its prefix is long, at most.
+  -- A scope is at most as deep as its prefix is long.
   pub prefix_long : (depth : ℕ) (scope : Scope) → IsScopeAt nest depth scope → depth ≤ length scope.prefix
   prefix_long zero scope is = omega arith
   prefix_long (suc depth) scope is =
@@ -131,10 +132,10 @@ module _ (nest : Nest) where
       (instances_of nest is.0.group) is.2.instance leaf (contained (instances_of nest is.0.group) is.2.instance is.2.stands)
       (subst (λ found. Has (unwrap_or (option_map (leaves nest rest) found) (named_in is.0 is.2.instance ∷ [])) leaf) (sym is.2.leads) has))
 
--- ---- What rules tell
+-- ---- What follows from the rules
 
 module _ (nest : Nest) (sound : IsSound nest) where
-  -- Of a group at a place, rules 27 and 29.
+  -- Rules 27 and 29 for a group at a place.
   unbroken_line : (place : ℕ) (group : Group) → slice_get nest.groups place ≡ Some group → (line : ℕ) × (slice_get nest.lines place ≡ Some line)
   unbroken_line place group is = at_place nest.lines place (subst (λ n. place < n) (sym sound.lines) (slice_get_within nest.groups place group is))
 
@@ -154,7 +155,7 @@ module _ (nest : Nest) (sound : IsSound nest) where
   main_ports_there =
       never_true (main_misses_port nest) (λ breaks. sound.unbroken nest.main_line 29 (inr (inr (inl (refl, inr (breaks, refl))))))
 
-  -- The inner ports of its lines are there, and the ends of its connections.
+  -- The inner ports of its lines exist, and so do the ends of its connections.
   pub record LinesKeep (group : Group) : Type 0 where
     pub ins : list_any (misbinds (has_input nest) group.instances) group.ins ≡ false
     pub outs : list_any (misbinds (has_output nest) group.instances) group.outs ≡ false
@@ -203,7 +204,7 @@ module _ (nest : Nest) (sound : IsSound nest) where
             (subst (λ xs. Has xs some.0) (sym (group_has nest (λ g. g.instances) made.one group.0 group.1)) some.1),
       )
 
-  -- No scope is as deep as levels are followed.
+  -- No scope is as deep as the number of levels that are visited.
   none_so_deep : (depth : ℕ) (scope : Scope) → suc depth ≡ levels → IsScopeAt nest (suc depth) scope → ⊥
   none_so_deep depth scope deep is =
       let some = has_instance depth scope is in
@@ -233,7 +234,7 @@ module _ (nest : Nest) (sound : IsSound nest) where
 
   -- ---- Ports at groups
 
-  -- Where the port is at an instance of a group, this has a line with it.
+  -- Where the port is at an instance of a group, the group has a line with it.
   abbrev pub IsThere : (Group → List Bind) → Option ℕ → PortName → Type 0
   IsThere binds group port =
       (place : ℕ) → place_at nest group port.instance ≡ Some place → is_among (map (λ bind. bind.port) (of_group nest binds place)) port.port ≡ true
@@ -242,7 +243,7 @@ module _ (nest : Nest) (sound : IsSound nest) where
     abbrev has : List ℕ → List ℕ → Bool
     has = has_port nest of_unit binds
 
-    -- Of a group the port is among its lines.
+    -- The port of a group is among its lines.
     has_lines : (unit port : List ℕ) (place : ℕ) → group_place nest unit ≡ Some place → has unit port ≡ true
         → is_among (map (λ bind. bind.port) (of_group nest binds place)) port ≡ true
     has_lines unit port place at is =
@@ -286,7 +287,7 @@ module _ (nest : Nest) (sound : IsSound nest) where
         to = not_missed input_names (λ g. g.ins) group wire.to both.1;
       }
 
-  -- The ends of the connections of a scope are there.
+  -- The ends of the connections of a scope exist.
   pub ends_there : (depth : ℕ) (scope : Scope) → IsScopeAt nest depth scope → (wire : Wire) → Has (wires_of nest scope.group) wire
       → EndsThere scope.group wire
   ends_there zero scope is wire has =
@@ -308,7 +309,7 @@ module _ (nest : Nest) (sound : IsSound nest) where
       (ap (λ xs. wire_misses nest xs wire) instances ∙ fails_any (wire_misses nest group.0.instances) group.0.wires wire kept here))
 
   module _ (place : ℕ) (group : Group) (there : slice_get nest.groups place ≡ Some group) where
-    -- The inner ports of a group's lines are there.
+    -- The inner ports of a group's lines exist.
     pub inner_out_there : (bind : Bind) → Has (of_group nest (λ g. g.outs) place) bind → OutThere (Some place) bind.inner
     inner_out_there bind has =
         let here = subst (λ xs. Has xs bind) (group_has nest (λ g. g.outs) place group there) has in

@@ -1,4 +1,4 @@
--- Members that see the same, of signals in different places, give the same.
+-- Members that read the same, from signals in different places, have the same results.
 use Rattle.std.proofs.Common.{◌≡◌, ℕ, ◌+◌, ℤ, pos, List, [], ◌∷◌, ◌++◌, map, if◌then◌else◌, Option, Some, None, refl, sym, ap, ap₂, ◌∙◌, subst}
 use Rattle.std.specs.Prelude.{zip}
 use Rattle.std.specs.List.{AllZip, flat_map, enumerate_from}
@@ -29,13 +29,13 @@ pub record SeesAlike (signals others : Signals) (one other : EventMember) : Type
 abbrev pub SeeAlike : Signals → Signals → List EventMember → List EventMember → Type 0
 SeeAlike signals others ones = AllZip (SeesAlike signals others) ones
 
--- ---- What is made of equal lists
+-- ---- Results for equal lists
 
 none_mapped : {A B : Type 0} (f : A → B) (x : B) (xs : List B) → map f [] ≡ x ∷ xs → ⊥
 none_mapped f x xs is = absurd (cc)
 
 module _ {X Y W D : Type 0} (f : X → W) (g : Y → W) (given : D → W → W) where
-  -- Beside other items.
+  -- With other items next to them.
   beside : (items : List D) (xs : List X) (ys : List Y) → map f xs ≡ map g ys
       → map (λ (pair : D × X). given pair.0 (f pair.1)) (zip items xs) ≡ map (λ (pair : D × Y). given pair.0 (g pair.1)) (zip items ys)
   beside [] xs ys same = refl
@@ -114,7 +114,7 @@ module _ (signals others : Signals) (component : Component) (factor : ℕ) (sour
 -- ---- All members
 
 module _ (signals others : Signals) where
-  -- Of two members that see alike, with the second written by the first.
+  -- Two members that read the same, with the second given by the first.
   module _ (P : EventMember → EventMember → Type 0)
       (same : (component : Component) (factor : ℕ) (sources sources' : List InputSource) (feeds feeds' : List (Option ℕ))
       → map (word_from signals) sources ≡ map (word_from others) sources' → map (signal_from signals) feeds ≡ map (signal_from others) feeds'
@@ -124,7 +124,7 @@ module _ (signals others : Signals) where
         subst (P one) (sym alike.other_is)
         (same one.member.component one.member.factor one.member.sources other.member.sources one.feeds other.feeds alike.words alike.feeds)
 
-  -- What is made of each standing is the same, where it is of two members that see alike.
+  -- The same is computed for two members that read the same.
   module _ {B : Type 0} (f g : EventMember × List ℤ → B)
       (same : (one other : EventMember) (state : List ℤ) → SeesAlike signals others one other → f (one, state) ≡ g (other, state)) where
     each_same : (ones them : List EventMember) (states : List (List ℤ)) → SeeAlike signals others ones them
@@ -188,7 +188,7 @@ module _ (signals others : Signals) where
       → event_port_fault ones states signals ≡ event_port_fault them states others
   fault_same ones them states alike = ap first_some (all_faults 0 ones them states alike)
 
-  -- Their offers.
+  -- The results of their calls.
   pub limits_same : (at : Position) (ones them : List EventMember) → SeeAlike signals others ones them
       → (event_offers ones at signals).limits ≡ (event_offers them at others).limits
   limits_same at ones them alike =

@@ -10,7 +10,7 @@ use Rattle.sub_flat.specs.NestRules.{BreaksNest}
 use Rattle.list_laws.proofs.Truths.{lt_told, lt_not_told}
 use Rattle.nest_runs.specs.SoundNests.{IsSound}
 
--- What a test tells holds where it can't fail.
+-- A test holds where it can't fail.
 test_holds : (told : Bool) → ((told ≡ true → ⊥) → ⊥) → told ≡ true
 test_holds true kept = refl
 test_holds false kept = absurd (kept (λ is. absurd (cc)))

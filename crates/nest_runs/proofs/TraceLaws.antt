@@ -42,7 +42,7 @@ use Rattle.nest_runs.proofs.MemberLaws.{see_alike}
 use Rattle.nest_runs.proofs.SightLaws.{SeeAlike, sides_same, fault_same, limits_same, steps_same}
 use Rattle.nest_runs.proofs.WireLaws.{flat}
 
--- ---- Members that see alike
+-- ---- Members that read the same
 
 states_same : (signals others : Signals) (ones them : List EventMember) → SeeAlike signals others ones them
     → map (λ (one : EventMember). initial one.member.component) ones ≡ map (λ (one : EventMember). initial one.member.component) them
@@ -64,7 +64,7 @@ factors_same signals others (one ∷ ones) (other ∷ them) alike =
 
 -- ---- Signals by places
 
--- Where ports differ, what stands at their places is the list itself.
+-- If ports differ, the elements at their places are the list itself.
 signals_back : (whole front ports : List PortName) (all before signals : Signals) → whole ≡ front ++ ports → all ≡ before ++ signals
     → length before ≡ length front → length signals ≡ length ports → Distinct whole
     → map (λ port. signal_in all (position_or_len (same_port port) whole)) ports ≡ signals
@@ -134,7 +134,7 @@ module _ (system : System) (differ : PortsDiffer system) where
   outputs_apart : Distinct (outputs_of system)
   outputs_apart = all_apart system.instances differ.instances
 
--- ---- As many signals as outputs
+-- ---- One signal for each output
 
 module _ (system : System) (signals : Signals) where
   abbrev made : Instance → Option Unit → Option EventMember
@@ -187,7 +187,7 @@ module _ (system : System) (signals : Signals) where
           ∙ sym (length-map (output_ports unit) (λ (port : Port). port_of instance port.name))) later
           ∙ sym (length-append (ports_in instance (Some unit)) (all_ports instances))
 
--- ---- As many states as members
+-- ---- One state for each member
 
 zip_long : {A B : Type 0} (xs : List A) (ys : List B) → length xs ≡ length ys → length (zip xs ys) ≡ length xs
 zip_long [] ys same = refl

@@ -1,4 +1,4 @@
--- Where ports of groups lead: outputs down the `out` lines, and inputs along the `in` lines.
+-- Where ports of groups lead: outputs down by `out` lines, and inputs down by `in` lines.
 use Rattle.std.proofs.Common.{◌≡◌, ℕ, zero, suc, ◌+◌, ◌≤◌, Bool, true, false, List, [], ◌∷◌, ◌++◌, map, Option, Some, None, inl, inr, refl, sym, ap}
 use Rattle.std.proofs.Common.{subst}
 use Rattle.std.proofs.Common.{◌∙◌, ◌⊎◌, arith, cond}
@@ -129,7 +129,7 @@ module _ (nest : Nest) where
       ap (λ found. option_and_then (λ (scope : Scope). option_map (spot_in scope) (out_in nest scope spot.port.port))
       (option_map (inside spot.scope spot.port.instance) found)) (nowhere (place_at nest spot.scope.group spot.port.instance) is)
 
-  -- A line of the group of an instance leads from its port to one inside.
+  -- A line of the group of an instance goes from its port to one inside.
   pub record Step (binds : Group → List Bind) (spot next : Spot) : Type 0 where
     pub place : ℕ
     pub at : place_at nest spot.scope.group spot.port.instance ≡ Some place
@@ -176,9 +176,9 @@ module _ (nest : Nest) where
       → IsScopeAt nest (suc depth) next.scope
   step_deeper binds depth spot next is step = (spot.scope, is, step_inside binds spot next step)
 
-  -- ---- Ways of inputs
+  -- ---- Paths of inputs
 
-  -- An input leads to another by so many `in` lines.
+  -- An input reaches another by this many `in` lines.
   abbrev pub Way : ℕ → Spot → Spot → Type 0
   Way zero from to = from ≡ to
   Way (suc count) from to = (next : Spot) × (is_component nest from ≡ false) × Has (expand nest from) next × Way count next to
@@ -255,7 +255,7 @@ module _ (nest : Nest) where
       by later true there = record { from = to; has = there; count = 0; within = omega arith; way = refl }
       by later false there = further (later (distinct [] expanded) there)
 
-  -- A component's input that a way leads to is reached.
+  -- A component's input that a path leads to is reached.
   pub way_reached : (depth : ℕ) (spots : List Spot) (from to : Spot) (count : ℕ) → Has spots from → Way count from to → is_component nest to ≡ true
       → count ≤ depth → Has (reach nest depth spots) to
   way_reached zero spots from to zero has way leaf within = subst (Has spots) way has
@@ -305,7 +305,7 @@ module _ (nest : Nest) where
   pub follow_none : (depth : ℕ) (spot : Spot) → step_down nest spot ≡ None → follow nest (suc depth) spot ≡ spot
   follow_none depth spot is = ap (λ found. unwrap_or (option_map (follow nest depth) found) spot) is
 
-  -- Where a component's is reached, one level more changes nothing.
+  -- Once a component's output is reached, one more level changes nothing.
   pub follow_stable : (depth : ℕ) (spot : Spot) → is_component nest (follow nest depth spot) ≡ true
       → follow nest (suc depth) spot ≡ follow nest depth spot
   follow_stable zero spot is = follow_stays 1 spot is
@@ -335,7 +335,7 @@ module _ (nest : Nest) (sound : IsSound nest) where
       let led = led_by (λ (instance : Instance). group_place nest instance.unit) (instance_among (instances_of nest group) name) place at in
       group_at nest led.one.unit place led.is
 
-  -- The inner port of a line is there.
+  -- The inner port of a line exists.
   pub next_in_there : (spot next : Spot) → Step nest (λ group. group.ins) spot next → InThere nest sound next.scope.group next.port
   next_in_there spot next step =
       let found = placed_group spot.scope.group spot.port.instance step.place step.at in
@@ -347,7 +347,7 @@ module _ (nest : Nest) (sound : IsSound nest) where
       subst (λ (s : Spot). OutThere nest sound s.scope.group s.port) step.is
       (inner_out_there nest sound step.place found.0 found.1 step.bind step.has)
 
-  -- An input of a group that is there leads on.
+  -- An input of a group that exists leads to another.
   leads_on : (spot : Spot) → InThere nest sound spot.scope.group spot.port → is_component nest spot ≡ false
       → (next : Spot) × Has (expand nest spot) next
   leads_on spot there grouped =
@@ -361,14 +361,14 @@ module _ (nest : Nest) (sound : IsSound nest) where
             (has_map into (filter named lines) found.one (has_filtered named lines found.one found.has found.passes)),
       )
 
-  -- A component's input that an input leads to.
+  -- A component's input that an input reaches.
   pub record Leaf (spot : Spot) : Type 0 where
     pub count : ℕ
     pub leaf : Spot
     pub way : Way nest count spot leaf
     pub is : is_component nest leaf ≡ true
 
-  -- Each input that is there leads to one: no scope is so deep that levels end before.
+  -- Each input that exists reaches one: no scope is so deep that the levels end before.
   pub leads_to_leaf : (levels_left depth : ℕ) (spot : Spot) → IsScopeAt nest depth spot.scope → InThere nest sound spot.scope.group spot.port
       → levels ≤ depth + levels_left → Leaf spot
   leads_to_leaf zero depth spot is there deep = (let short = scope_short nest sound depth spot.scope is in absurd (omega (arith, deep, short)))
@@ -437,7 +437,7 @@ module _ (nest : Nest) (sound : IsSound nest) where
       by later true told there = all_pass (is_component nest) spots to told there
       by later false told there = later (distinct [] expanded) each there
 
-  -- An output of a group that is there is one of an inner port.
+  -- An output of a group that exists comes from an inner port.
   steps_down : (spot : Spot) → OutThere nest sound spot.scope.group spot.port → is_component nest spot ≡ false
       → (next : Spot) × (step_down nest spot ≡ Some next)
   steps_down spot there grouped =
@@ -448,7 +448,7 @@ module _ (nest : Nest) (sound : IsSound nest) where
       let found = finds named lines line.one line.has line.passes in
       (spot_in (inside spot.scope spot.port.instance place.0) found.one, step_some nest spot place.0 found.one place.1 found.is)
 
-  -- Followed as far as there are levels, an output is a component's.
+  -- After all levels, an output is a component's.
   pub followed_leaf : (depth at : ℕ) (spot : Spot) → IsScopeAt nest at spot.scope → OutThere nest sound spot.scope.group spot.port
       → levels ≤ at + depth
       → is_component nest (follow nest depth spot) ≡ true

@@ -1,4 +1,4 @@
--- Connections of a nest, and those that its flat system has for them.
+-- Connections of a nest, and those of its flat system that they become.
 use Rattle.std.proofs.Common.{◌≡◌, ℕ, zero, suc, ◌+◌, ◌-◌, ◌≤◌, Bool, true, false, List, [], ◌∷◌, ◌++◌, map, Option, Some, None, inl, inr, refl, sym}
 use Rattle.std.proofs.Common.{ap, ap₂}
 use Rattle.std.proofs.Common.{subst, ◌∙◌, ◌⊎◌, arith}
@@ -43,7 +43,7 @@ connections nest (suc depth) scope =
     ++ flat_map (λ instance. unwrap_or (option_map (connections nest depth) (scope_of nest scope instance)) []) (instances_of nest scope.group)
 
 module _ (nest : Nest) where
-  -- The component's output that a connection comes from, and what it becomes in the flat system.
+  -- The component's output from which a connection comes, and what it becomes in the flat system.
   abbrev pub source : Connection → PortName
   source one = flat_port (follow nest levels one.from)
 
@@ -85,7 +85,7 @@ module _ (nest : Nest) where
           ap₂ (λ here others. here ++ others) (by same (scope_of nest scope instance)) (each same instances)
           ∙ sym (flat_map-append made_flat (inner_connections depth scope instance) (flat_map (inner_connections depth scope) instances))
 
-  -- ---- Where a connection stands
+  -- ---- The scope of a connection
 
   pub record Standing (one : Connection) : Type 0 where
     pub depth : ℕ
@@ -222,7 +222,7 @@ module _ (nest : Nest) (sound : IsSound nest) where
       let short = scope_short nest sound depth scope is in
       all_have nest levels (ends scope wire) depth scope (levels - depth) is (omega (arith, short)) (own_has nest (levels - depth) scope wire has)
 
-  -- The scope of its ends, and that these are there.
+  -- The scope of its ends, and that these exist.
   pub record EndsKeep (one : Connection) : Type 0 where
     pub depth : ℕ
     pub from_scope : IsScopeAt nest depth one.from.scope
@@ -252,7 +252,7 @@ module _ (nest : Nest) (sound : IsSound nest) where
       (has_map (wire_to nest one) (reach nest levels (one.to ∷ [])) leaf
       (way_reached nest levels (one.to ∷ []) one.to leaf count (inl refl) way is (omega (arith, short)))))
 
-  -- What a connection of the flat system is made of.
+  -- The parts of a connection of the flat system.
   pub record Behind (wire : Wire) : Type 0 where
     pub one : Connection
     pub has : Has all one
@@ -287,7 +287,7 @@ module _ (nest : Nest) (sound : IsSound nest) where
       only_deep to depth is spot (inl same) = inr (depth, subst (λ (s : Spot). IsScopeAt nest depth s.scope) same is, omega arith)
       only_deep to depth is spot (inr none) = absurd none
 
-  -- No two lead to one input.
+  -- No two connections reach the same input.
   same_source : (one other : Connection) (leaf leaf' : Spot) (count count' : ℕ) → Has all one → Has all other → Way nest count one.to leaf
       → Way nest count' other.to leaf' → is_component nest leaf ≡ true → is_component nest leaf' ≡ true → flat_port leaf ≡ flat_port leaf'
       → source nest one ≡ source nest other
@@ -296,7 +296,7 @@ module _ (nest : Nest) (sound : IsSound nest) where
       (same_wire flat.wires (wire_to nest one leaf) (wire_to nest other leaf') (is_wired flat sound.well_formed).once
       (becomes one count leaf has way is) (becomes other count' leaf' has' way' is') same)
 
-  -- Connections that lead to one port come from one output.
+  -- Connections that reach the same port come from the same output.
   pub agree : (one other : Connection) (to to' : Spot) (count count' : ℕ) → Has all one → Has all other → Way nest count one.to to
       → Way nest count' other.to to' → port_at nest to ≡ port_at nest to' → source nest one ≡ source nest other
   agree one other to to' count count' has has' way way' same = by (is_component nest to) refl

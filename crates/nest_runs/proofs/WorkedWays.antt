@@ -1,4 +1,4 @@
--- The lines of the worked nest, and what values do along them.
+-- The lines of the worked nest, and the values along them.
 use Rattle.std.proofs.Common.{◌≡◌, Some, refl, ◌∙◌, arith}
 use Rattle.std.specs.Prelude.{codes, List, ℕ}
 use Rattle.nest_names.specs.Flattening.{inside, top}

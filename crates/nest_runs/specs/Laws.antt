@@ -17,26 +17,27 @@ use Rattle.nest_runs.specs.SoundNests.{IsSound}
 use Rattle.nest_runs.specs.NestPorts.{LeadsOut, NestPort, OfComponent}
 use Rattle.nest_runs.specs.NestTrace.{AreCarried, HasOneNestTraceOf, IsNestTraceOf, PortValues}
 
--- The trace of a nest is that of its flat system: the same rows, with the same signals of all components' outputs, the same last point
--- and the same end.
+-- The trace of a nest is that of its flat system: the same rows, with the same signals of all components' outputs, the
+-- same last point and the same ending.
 abbrev pub NestsRunAsTheyAreFlat : Type 0
 NestsRunAsTheyAreFlat =
     (nest : Nest) → IsSound nest → (rows : List EventRow) (last : Point) (ending : Ending)
     → IsNestTraceOf nest rows last ending ↔ IsEventTraceOf (flat_of nest) rows last ending
 
--- So there is exactly one, where the flat system has no cycle.
+-- So it has exactly one trace, if the flat system has no cycle.
 abbrev pub NestsHaveOneOutcome : Type 0
 NestsHaveOneOutcome = (nest : Nest) → IsSound nest → HasNoCycle (flat_of nest) → HasOneNestTraceOf nest
 
--- A nested text whose nest keeps the rules of groups runs as the canonical text of its flat system, where that text is accepted.
+-- A nested text whose nest keeps the rules of groups runs as the canonical text of its flat system does, if that text
+-- is accepted.
 abbrev pub NestedTextsRunFlat : Type 0
 NestedTextsRunFlat =
     (text : List ℕ) (nest : Nest) (system : System) (lines : List ℕ) → IsNestOf text nest → ((line rule : ℕ) → BreaksNest nest line rule → ⊥)
     → IsAcceptedAs (canonical_text (flat_of nest)) system lines
     → (rows : List EventRow) (last : Point) (ending : Ending) → IsNestTraceOf nest rows last ending ↔ IsEventTraceOf system rows last ending
 
--- Ports of groups have no other values than those of the components behind them: where two assignments have the same at the outputs of
--- components, they have the same at each input, and at each output that a line of a group makes.
+-- The values at ports of groups depend only on those of components: where two assignments agree at the outputs of
+-- components, they agree at each input, and at each output of a group that has an `out` line.
 abbrev pub GroupsHaveWhatComponentsHave : Type 0
 GroupsHaveWhatComponentsHave =
     (nest : Nest) → IsSound nest → (one other : PortValues) → AreCarried nest one → AreCarried nest other
@@ -44,7 +45,7 @@ GroupsHaveWhatComponentsHave =
     → ((port : NestPort) → one.ins port ≡ other.ins port)
     × ((outer inner : NestPort) → LeadsOut nest outer inner → one.outs outer ≡ other.outs outer)
 
--- And an output of a group has what the component's output has that its lines lead down to.
+-- An output of a group has the value of the component's output that its `out` lines lead to.
 abbrev pub GroupsShowComponents : Type 0
 GroupsShowComponents =
     (nest : Nest) → IsSound nest → (values : PortValues) → AreCarried nest values → (outer inner : NestPort) (line : LeadsOut nest outer inner)

@@ -1,4 +1,4 @@
--- Ports of a nest: where its lines stand, which ports they name, and how these are connected.
+-- Ports of a nest: the scopes of its lines, the ports that lines name, and how these are connected.
 use Rattle.std.specs.Prelude.{◌≡◌, ℕ, zero, suc, false, if◌then◌else◌, Some, Contains}
 use Rattle.unit_tree.specs.declared.system.Instance.{Instance}
 use Rattle.unit_tree.specs.declared.system.PortName.{PortName}
@@ -10,13 +10,13 @@ use Rattle.nest_names.specs.declared.scope.Spot.{Spot}
 
 -- ---- Scopes
 
--- One scope stands in another: it is that of an instance there, which is one of a group.
+-- One scope is inside another: it is that of an instance there, whose unit is a group.
 pub record IsInside (nest : Nest) (outer scope : Scope) : Type 0 where
   pub instance : Instance
   pub stands : Contains (instances_of nest outer.group) instance
   pub leads : scope_of nest outer instance ≡ Some scope
 
--- A scope so many levels deep: that of `main`, or one inside a scope that is a level less deep.
+-- A scope at this depth: that of `main`, or one inside a scope that is one level less deep.
 abbrev pub IsScopeAt : Nest → ℕ → Scope → Type 0
 IsScopeAt nest zero scope = scope ≡ top
 IsScopeAt nest (suc depth) scope = (outer : Scope) × IsScopeAt nest depth outer × IsInside nest outer scope
@@ -26,8 +26,8 @@ IsScope nest scope = (depth : ℕ) × IsScopeAt nest depth scope
 
 -- ---- Ports
 
--- A port of a group is told by the scope and the name of its instance. A component has one name in all scopes, which is its name in
--- the flat system.
+-- A port of a component or of a group. A port of a group is given by the scope and the name of its instance. A
+-- component has one name in all scopes, which is its name in the flat system.
 pub data NestPort : Type 0 where
   OfComponent : PortName → NestPort
   OfGroup : Spot → NestPort
@@ -35,14 +35,14 @@ pub data NestPort : Type 0 where
 abbrev pub spot_of : Scope → PortName → Spot
 spot_of scope port = record { scope = scope; port = port }
 
--- The port that a name in a scope means: of several instances of one name the first is meant. A port at an instance that isn't there
--- may be one of a component of another scope.
+-- The port that a name in a scope means. Of several instances with one name the first is meant. A port of an instance
+-- that doesn't exist there may be one of a component of another scope.
 abbrev pub port_at : Nest → Spot → NestPort
 port_at nest spot = if is_component nest spot then OfComponent (flat_port spot) else OfGroup spot
 
 -- ---- Lines
 
--- A connection of some scope leads from an output to an input.
+-- A connection of some scope goes from an output to an input.
 pub record Connects (nest : Nest) (from to : NestPort) : Type 0 where
   pub scope : Scope
   pub wire : Wire
@@ -51,7 +51,7 @@ pub record Connects (nest : Nest) (from to : NestPort) : Type 0 where
   pub from_is : from ≡ port_at nest (spot_of scope wire.from)
   pub to_is : to ≡ port_at nest (spot_of scope wire.to)
 
--- An `in` line leads from an input of a group to one inside.
+-- An `in` line goes from an input of a group to an input inside.
 pub record LeadsIn (nest : Nest) (outer inner : NestPort) : Type 0 where
   pub spot : Spot
   pub next : Spot
@@ -61,7 +61,7 @@ pub record LeadsIn (nest : Nest) (outer inner : NestPort) : Type 0 where
   pub outer_is : outer ≡ port_at nest spot
   pub inner_is : inner ≡ port_at nest next
 
--- An `out` line makes an output of a group of one inside.
+-- An `out` line goes from an output inside to an output of a group.
 pub record LeadsOut (nest : Nest) (outer inner : NestPort) : Type 0 where
   pub spot : Spot
   pub next : Spot

@@ -1,4 +1,4 @@
--- The trace of a nest: port assignments in which the ports of groups have values too, and where they lead.
+-- The trace of a nest: port assignments in which the ports of groups have values too, and the traces with these.
 use Rattle.std.specs.List.{flat_map, filter_map, enumerate_from}
 use Rattle.std.specs.Option.{unwrap_or}
 use Rattle.std.specs.Prelude.{◌≡◌, ◌⊎◌, ◌+◌, ℕ, ℤ, List, [], ◌∷◌, ◌++◌, map, length, Option, Some, None, IsSome}
@@ -24,11 +24,12 @@ use Rattle.nest_runs.specs.NestPorts.{NestPort, OfComponent, Connects, LeadsIn, 
 
 -- ---- What is run
 
--- The components of a nest, depth first, as a system of their own: without a connection.
+-- The components of a nest, depth first, as a system of their own, without connections.
 abbrev pub components_of : Nest → System
 components_of nest = record nest.main { instances = leaves nest levels top; wires = []; samples = [] }
 
--- A member whose inputs, plain ones first, read the places from a number on. In a list of what inputs have a place is an input's.
+-- A member whose inputs, plain ones first, read the places from `first` on. Here a place is that of an input in a list
+-- of all inputs' values.
 abbrev pub reading_from : ℕ → EventMember → EventMember
 reading_from first one = record {
   member = record one.member { sources = map (λ counted. AtPlace counted.0) (enumerate_from first one.member.component.unit.inputs) };
@@ -40,26 +41,29 @@ reading_from first one = record {
 abbrev pub count_of_inputs : EventMember → ℕ
 count_of_inputs one = length one.member.component.unit.inputs + length one.member.component.unit.events_in
 
--- Members each input of which reads a place of its own, in order.
+-- Members whose inputs each read a place of their own, in order.
 abbrev pub reading_in_order : ℕ → List EventMember → List EventMember
 reading_in_order first [] = []
 reading_in_order first (one ∷ others) = reading_from first one ∷ reading_in_order (first + count_of_inputs one) others
 
--- The components of a nest as they are run. What their inputs read is not what outputs have, but what the inputs themselves have.
+-- The components of a nest as they are run. Their inputs don't read the values of outputs, but those that a port
+-- assignment gives to the inputs themselves.
 abbrev pub nest_members : Nest → List EventMember
 nest_members nest = reading_in_order 0 (event_members_of (components_of nest))
 
 abbrev pub nest_run_of : Nest → EventRun
 nest_run_of nest = record { members = nest_members nest; pace = event_pace (components_of nest) (nest_members nest) }
 
--- ---- What ports have
+-- ---- The values of ports
 
--- Of each output a signal, or nothing where it is undefined; and of each input that is connected the same of its source.
+-- For each output a signal, or nothing where it is undefined; and for each input that is connected the same for its
+-- source.
 pub record PortValues : Type 0 where
   pub outs : NestPort → Option Signal
   pub ins : NestPort → Option (Option Signal)
 
--- What the inputs of components have: an input that isn't connected has its start word, and an event input then none.
+-- The values at the inputs of components: an input that isn't connected has its start word, and such an event input is
+-- absent.
 abbrev pub plain_input : PortValues → Instance → Input → Option Signal
 plain_input values instance input = unwrap_or (values.ins (OfComponent (port_of instance input.name)))
     (Some (Occurs (start_word input.ty input.start)))
@@ -75,19 +79,19 @@ abbrev pub input_signals : Nest → PortValues → Signals
 input_signals nest values =
     flat_map (λ instance. inputs_of values instance (unit_of_instance (components_of nest) instance)) (components_of nest).instances
 
--- What the outputs of components have.
+-- The values at the outputs of components.
 abbrev pub output_signals : Nest → PortValues → Signals
 output_signals nest values = map (λ port. values.outs (OfComponent port)) (outputs_of (components_of nest))
 
 -- ---- Port assignments
 
--- A connection ends at an input, or an `in` line leads there from one that is connected.
+-- A connection ends at an input, or an `in` line leads there from an input that is connected.
 abbrev pub IsFed : Nest → PortValues → NestPort → Type 0
 IsFed nest values to =
     ((from : NestPort) × Connects nest from to) ⊎ ((outer : NestPort) × LeadsIn nest outer to × IsSome (values.ins outer))
 
--- Values go along the lines of a nest: an output of a group has what the inner one has, a connected input what its source has, and an
--- inner input what that of its group has where this is connected. No other input is connected.
+-- Values follow the lines of a nest. An output of a group has the value of the inner one, a connected input that of its
+-- source, and an inner input that of its group's input if this is connected. No other input is connected.
 pub record AreCarried (nest : Nest) (values : PortValues) : Type 0 where
   pub out : (outer inner : NestPort) → LeadsOut nest outer inner → values.outs outer ≡ values.outs inner
   pub connected : (from to : NestPort) → Connects nest from to → values.ins to ≡ Some (values.outs from)
@@ -95,7 +99,7 @@ pub record AreCarried (nest : Nest) (values : PortValues) : Type 0 where
       → values.ins inner ≡ Some given
   pub fed : (to : NestPort) (given : Option Signal) → values.ins to ≡ Some given → IsFed nest values to
 
--- The values are those of ports for the states: each output of a component has what its equation says.
+-- The values are a port assignment for the states: each output of a component has the signal that its equation gives.
 pub record IsNestAssignment (nest : Nest) (states : List (List ℤ)) (values : PortValues) : Type 0 where
   pub carried : AreCarried nest values
   pub leaves : output_signals nest values ≡ event_sides (nest_members nest) states (input_signals nest values)
@@ -121,7 +125,7 @@ IsNestTrace nest [] ending = ⊥
 IsNestTrace nest (first ∷ others) ending =
     (first.at ≡ first_event_position (nest_run_of nest)) × IsNestStand nest first × NestFollows nest first others ending
 
--- The row of a stand: its point, and the signals of the components' outputs there. A port fault has no row.
+-- The row of a stand: its point, and the signals of the components' outputs there. A stand with a port fault has none.
 abbrev pub row_of_stand : Nest → NestStand → Option EventRow
 row_of_stand nest stand =
     event_row_unless (event_port_fault (nest_members nest) stand.at.states (input_signals nest stand.values)) stand.at.point
@@ -132,14 +136,14 @@ last_nest_point [] = record { t = 0; n = 0 }
 last_nest_point (stand ∷ []) = stand.at.point
 last_nest_point (stand ∷ later ∷ others) = last_nest_point (later ∷ others)
 
--- The rows are those of a trace of the nest, `last` is the point at which it ends, and it ends so.
+-- The rows are those of a trace of the nest, `last` is the point at which it ends, and `ending` is its end.
 pub record IsNestTraceOf (nest : Nest) (rows : List EventRow) (last : Point) (ending : Ending) : Type 0 where
   pub stands : List NestStand
   pub trace : IsNestTrace nest stands ending
   pub rows_are : rows ≡ filter_map (row_of_stand nest) stands
   pub last_is : last ≡ last_nest_point stands
 
--- There is one list of rows, one last point and one end of the nest, and no other.
+-- The nest has exactly one list of rows, one last point and one ending.
 pub record HasOneNestTraceOf (nest : Nest) : Type 0 where
   pub rows : List EventRow
   pub last : Point

@@ -1,4 +1,5 @@
--- A worked nest: a component, and behind it two in a row, of which a group inside a group has the second.
+-- A nest that was worked out by hand: a component, and after it two more in a row, the second of which is in a group
+-- inside a group.
 use Rattle.std.specs.Prelude.{◌≡◌, [], ◌∷◌, codes, map, List, ℕ, Some, None, pos}
 use Rattle.fixed_words.specs.declared.types.Literal.TheVariants as literal
 use Rattle.fixed_words.specs.declared.types.Ty.TheVariants.{Int64}
@@ -16,7 +17,7 @@ use Rattle.nest_runs.specs.NestTrace.{AreCarried, PortValues}
 
 -- ---- Its unit
 
--- One more than its input.
+-- The unit whose output is its input and one.
 abbrev pub next_unit : Unit
 next_unit = record {
   name = codes "Next";
@@ -51,7 +52,7 @@ shell = record {
   wires = [];
 }
 
--- A component, and behind it a shell with another.
+-- A component, and after it a shell with another.
 abbrev pub row : Group
 row = record {
   name = codes "Row";
@@ -61,7 +62,7 @@ row = record {
   wires = record { from = port (codes "k") (codes "y"); to = port (codes "s") (codes "x") } ∷ [];
 }
 
--- A system of this unit, of which instances, connections and samples are told.
+-- A system of this unit, with these instances, connections and samples.
 abbrev pub system_with : List Instance → List (PortName × PortName) → List PortName → System
 system_with instances wires samples = record {
   version = 1;
@@ -85,7 +86,7 @@ worked_nest = record {
   main_line = 14;
 }
 
--- ---- What it is flat, and what its ports have
+-- ---- The flat system, and the values at its ports
 
 abbrev pub FlatIsWorked : Type 0
 FlatIsWorked =
@@ -95,8 +96,8 @@ FlatIsWorked =
     ((port (codes "a") (codes "y"), port (codes "r_k") (codes "x")) ∷ (port (codes "r_k") (codes "y"), port (codes "r_s_k") (codes "x")) ∷ [])
     (port (codes "r_s_k") (codes "y") ∷ [])
 
--- The output of the row is that of the component inside the shell; its input, and so the first component's, has the output that stands
--- before the row.
+-- The output of the row is that of the component inside the shell. The input of the row, and so that of its first
+-- component, has the value of the output before the row.
 pub record ValuesAreWorked (values : PortValues) : Type 0 where
   pub output : values.outs (OfGroup (spot_of top (port (codes "r") (codes "y")))) ≡ values.outs (OfComponent (port (codes "r_s_k") (codes "y")))
   pub input : values.ins (OfGroup (spot_of top (port (codes "r") (codes "x")))) ≡ Some (values.outs (OfComponent (port (codes "a") (codes "y"))))

@@ -1,4 +1,4 @@
--- Groups that are gathered and read one after the other.
+-- Groups that are collected and read in turn.
 use Rattle.std.proofs.Common.{◌≡◌, ℕ, suc, ◌+◌, ◌≤◌, ◌<◌, true, false, List, [], ◌∷◌, ◌++◌, map, length, Some, None, Err}
 use Rattle.std.proofs.Common.{refl, sym, ap, subst, ◌∙◌, arith, append_assoc, append-nil}
 use Rattle.std.specs.Prelude.{codes}
@@ -20,9 +20,9 @@ use Rattle.nest_text.proofs.LineWalks.{lines_there, next_line, none_left, of_lin
 use Rattle.nest_text.proofs.TextCuts.{IsWhole, are_whole}
 use Rattle.text_laws.proofs.WholeLines.{line_more}
 
--- ---- A line more
+-- ---- One more line
 
--- a line that begins no group stands in front
+-- a line that begins no group is the first of those before the first group
 pub not_begun : (line : SourceLine) (kind : Kind) (behind : Parted) → ((name : List ℕ) → kind ≡ kinds.Begins name → ⊥)
     → with_line line kind behind ≡ record { front = line ∷ behind.front; groups = behind.groups }
 not_begun line (kinds.Begins name) behind not = absurd (not name refl)
@@ -78,9 +78,9 @@ adds_more old middle new lines line was is = record {
   numbers = put_more kept_number old.numbers middle.numbers new.numbers lines line was.numbers is.numbers;
 }
 
--- ---- Gathering
+-- ---- Collecting
 
--- Lines of a text are gathered up to this rest.
+-- Lines of a text are collected up to this rest.
 pub record GatheredSoFar (text : List ℕ) (before : ℕ) (old : Body) (rest : List ℕ) (number : ℕ) (new : Body) : Type 0 where
   pub lines : List SourceLine
   pub are_lines : AreLines (before + 1) text lines
@@ -163,7 +163,7 @@ gather_stop text before old rest line behind number name new so_far cut is =
     let next = next_line (number + 1) rest line behind (kinds.Begins name) so_far.left cut is so_far.are_left in
     gathered text before old rest number new so_far (ap (λ lines. (parted lines).front) next.cut)
 
--- ---- A group that is gathered
+-- ---- A group that is collected
 
 pub is_gathered : (old new : Body) (name : List ℕ) (head : ℕ) (lines : List SourceLine) → IsGathered old (record { name = []; head = head; body = [] })
     → AddsLines old new lines → IsGathered new (record { name = name; head = head; body = lines })
@@ -190,7 +190,7 @@ body_long : (lines : List SourceLine) → AllByRecursion (λ line. IsWhole line.
 body_long [] whole = refl
 body_long (line ∷ lines) whole = kept_long line line.kind (flat_map kept_text lines) (flat_map kept_number lines) whole.0 (body_long lines whole.1)
 
--- a group's text has as many lines as there are numbers of them
+-- there is one number for each line of a group's text
 pub given_long : (lines : GroupLines) → AllByRecursion (λ line. IsWhole line.bytes) lines.body → length (lines_of (given lines)) ≡ length (numbers lines)
 given_long lines whole = ap length (line_more (codes "cosim 1") (flat_map kept_text lines.body) refl) ∙ ap suc (body_long lines.body whole)
 
@@ -223,7 +223,7 @@ groups_by P line kinds.Connects behind front all = all
 groups_by P line kinds.Blank behind front all = all
 groups_by P line kinds.Other behind front all = all
 
--- what all lines keep, those of the groups do
+-- a property of all lines is one of those of the groups
 pub groups_keep : (P : SourceLine → Type 0) (lines : List SourceLine) → AllByRecursion P lines
     → AllByRecursion (λ group. AllByRecursion P group.body) (groups_of lines)
 groups_keep P [] all = tt
@@ -278,7 +278,7 @@ read_next text rest line behind number kind made heads so_far cut shorter is not
       within = omega (arith, within, shorter);
     }
 
--- A group that is gathered, as it is to be read.
+-- A group that is collected, and has to be read.
 pub record IsReady (body : Body) (group : GroupLines) : Type 0 where
   pub is_gathered : IsGathered body group
   pub some : 0 < length body.numbers
@@ -303,7 +303,7 @@ zip_more R [] (b ∷ ys) x y all one = absurd all
 zip_more R (a ∷ xs) [] x y all one = absurd all
 zip_more R (a ∷ xs) (b ∷ ys) x y all one = (all.0, zip_more R xs ys x y all.1 one)
 
--- The next group, behind those that are read.
+-- The next group, after those that were read.
 pub record GroupAhead (text : List ℕ) (number : ℕ) (name : List ℕ) (behind : List ℕ) (made : List Group) (heads : List ℕ) : Type 0 where
   pub lines : List SourceLine
   pub are_lines : AreLines 1 text lines
@@ -379,7 +379,7 @@ group_refused text behind head name made heads line rule ahead refuses =
       refuses = refuses ahead.others ahead.are_others;
     })
 
--- the answer where a group isn't read
+-- the result where a group isn't read
 pub group_failed : (text behind : List ℕ) (head : ℕ) (name : List ℕ) (made : List Group) (heads : List ℕ) (why : NestFault)
     → GroupAhead text head name behind made heads → OfLines (head + 1) behind (λ lines. NextGroupIs name head lines (Err why))
     → OfLines 1 text (λ lines. GroupsAnswer (groups_of lines) (Err why))

@@ -20,7 +20,7 @@ use Rattle.nest_text.specs.Reading.{connects, ends, group_kind, in_kind, keyword
 use Rattle.nest_text.specs.declared.kind.Kind.{Kind}
 use Rattle.nest_text.specs.declared.kind.Kind.TheVariants as kinds
 
--- A line is of the kind, unless that is of another line.
+-- A line has the kind, unless the kind is `Other`.
 abbrev Told : List ℕ → Kind → Type 0
 Told line kind = HasKind line kind ⊎ (kind ≡ kinds.Other)
 
@@ -28,7 +28,7 @@ Told line kind = HasKind line kind ⊎ (kind ≡ kinds.Other)
 abbrev Spelled : List ℕ → List Token → Type 0
 Spelled line tokens = Spells tokens (code_of line)
 
--- ---- What tokens tell
+-- ---- The kind that tokens give
 
 group_told : (line : List ℕ) (rest : List Token) → Spelled line (token.Name (codes "group") ∷ rest) → Told line (group_kind rest)
 group_told line (token.Name name ∷ []) spelled = inl spelled
@@ -106,12 +106,12 @@ kind_told line (token.Name name ∷ rest) spelled = named_told line name rest sp
 kind_told line (token.Number digits decimals ∷ rest) spelled = inr refl
 kind_told line (token.Symbol symbol ∷ rest) spelled = inr refl
 
--- ---- What a kind asks of tokens
+-- ---- What a kind requires of tokens
 
 written_bare : (some : LineForm) (tokens : List Token) (written : WritesForm some tokens) → written.tail ≡ [] → tokens ≡ front_tokens some
 written_bare some tokens written none = written.spelled ∙ ap (λ tail. front_tokens some ++ tail) none ∙ append-nil (front_tokens some)
 
--- A line of a kind spells tokens that tell it.
+-- A line of a kind spells tokens that give the kind.
 record Tells (line : List ℕ) (kind : Kind) : Type 0 where
   tokens : List Token
   spelled : Spelled line tokens
@@ -142,7 +142,7 @@ kind_by : (line : List ℕ) (tokens : List Token) → Spelled line tokens → To
 kind_by line tokens spelled (inl has) = inl has
 kind_by line tokens spelled (inr is) = inr (is, λ some has. subst (HasKind line) (sym (kind_only line some tokens spelled has) ∙ is) has)
 
--- the kind that the tokens of a line tell
+-- the kind of the tokens of a line
 pub kind_spelled : (line : List ℕ) (tokens : List Token) → Spells tokens (code_of line) → IsKind line (kind_of tokens)
 kind_spelled line tokens spelled = kind_by line tokens spelled (kind_told line tokens spelled)
 

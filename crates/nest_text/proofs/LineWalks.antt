@@ -1,4 +1,4 @@
--- Lines of a nested text, one after the other.
+-- Lines of a nested text in turn.
 use Rattle.std.proofs.Common.{◌≡◌, ℕ, ◌+◌, ◌≤◌, ◌<◌, Bool, true, false, List, [], ◌∷◌, ◌++◌, length, Some, None}
 use Rattle.std.proofs.Common.{refl, sym, ap, ap₂, subst, ◌∙◌, arith}
 use Rattle.std.specs.Prelude.{◌&&◌, if◌then◌else◌}
@@ -45,9 +45,9 @@ pub of_lines : (first : ℕ) (text : List ℕ) (Says : List SourceLine → Type 
     → OfLines first text Says
 of_lines first text Says lines are said = λ others also. subst Says (same_lines first text lines others are also) said
 
--- ---- A line that is cut off
+-- ---- A line that is split off
 
--- The first of the lines is this one, of this kind, and the others are those of what stands behind it.
+-- The first of the lines is this one, of this kind, and the others are those of the text after it.
 pub record NextLine (first : ℕ) (line behind : List ℕ) (kind : Kind) (lines : List SourceLine) : Type 0 where
   pub others : List SourceLine
   pub cut : lines ≡ record { number = first; bytes = line; kind = kind } ∷ others
@@ -73,9 +73,9 @@ none_left first [] [] none are = refl
 none_left first [] (line ∷ lines) none are = absurd are
 none_left first (byte ∷ text) lines none are = absurd (omega (arith, none))
 
--- ---- Lines that stray
+-- ---- Lines that are not allowed where they are
 
--- The first line that strays is the first of these that are left.
+-- The first line that is not allowed is the first of those that are left.
 pub record StraysLeft (text rest : List ℕ) (number : ℕ) (place : Place) : Type 0 where
   pub lines : List SourceLine
   pub are_lines : AreLines 1 text lines
@@ -121,9 +121,9 @@ stray_none text rest number place so_far none =
     of_lines 1 text (λ lines. None ≡ first_stray BeforeParts lines) so_far.lines so_far.are_lines
     (sym (so_far.same ∙ ap (first_stray place) (none_left (number + 1) rest so_far.left none so_far.are_left)))
 
--- ---- What the first line that strays is
+-- ---- The first line that is not allowed
 
--- Behind a place, the line of this number is the first that may not stand where it is.
+-- After a place, the line with this number is the first that is not allowed where it is.
 pub record StraysBehind (place : Place) (lines : List SourceLine) (number : ℕ) : Type 0 where
   pub before : List SourceLine
   pub line : SourceLine

@@ -1,4 +1,4 @@
--- What the parts of a nested text answer is what the text does.
+-- The results for the parts of a nested text give the result for the text.
 use Rattle.std.proofs.Common.{◌≡◌, ℕ, ◌+◌, ◌-◌, ◌≤◌, List, inl, inr, Some, Result, Ok, Err, sym, subst, ap, ◌∙◌}
 use Rattle.std.specs.Prelude.{slice_get}
 use Rattle.std.specs.Result.{IsErrAnd}
@@ -16,7 +16,7 @@ use Rattle.nest_text.specs.declared.nest.Group.{Group}
 use Rattle.nest_text.proofs.GroupWalks.{groups_read}
 use Rattle.nest_text.proofs.TextCuts.{cut_of}
 
--- what is owed where a part gave up
+-- what has to be proved where a part failed
 pub handed_on : {X E : Type 0} (result : Result X E) (why : E) (Owes : Result X E → Type 0) → IsErrAnd result (λ found. found ≡ why) → Owes (Err why)
     → Owes result
 handed_on (Ok x) why Owes is owed = absurd is

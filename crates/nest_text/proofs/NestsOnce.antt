@@ -1,4 +1,4 @@
--- A nested text says one nest, or is refused once.
+-- A nested text has one nest, or is refused once.
 use Rattle.std.proofs.Common.{◌≡◌, ℕ, ◌+◌, ◌-◌, ◌≤◌, ◌<◌, true, false, List, [], ◌∷◌, ◌++◌, map, length, inl, inr, refl, sym, ap, ap₂, subst, ◌∙◌, arith}
 use Rattle.std.specs.Prelude.{◌||◌, ◌⊎◌, IsTrue, nat_le, slice_get}
 use Rattle.std.specs.List.{AllByRecursion, AllZip, list_all, sum_by}
@@ -38,7 +38,7 @@ reads_same one other system same reads = record {
   lines_short = subst (λ all. IsTrue (list_all (λ line. nat_le (length line) line_limit) (map without_return all))) same reads.lines_short;
 }
 
--- What is asked of the lines of a text that is refused.
+-- What is known of the lines of a text that is refused.
 abbrev LinesRefused : ℕ → ℕ → List (List ℕ) → Type 0
 LinesRefused number rule all =
     ((text_limit < sum_by (λ line. length line + 1) all) × (number ≡ 1) × (rule ≡ 2))
@@ -77,7 +77,7 @@ main_among : (front : List SourceLine) (main : SourceLine) (later : List SourceL
 main_among front main later is =
     any_behind (λ (line : SourceLine). is_main line.kind) front (main ∷ later) (ap (λ kind. is_main kind || has_main later) is)
 
--- behind a line `main` that may stand there is none
+-- after a line `main` that is allowed there is no other one
 main_alone : (place : Place) (main : SourceLine) (later front : List SourceLine) (second : SourceLine) (rest : List SourceLine)
     → are_placed place (main ∷ later) ≡ true → main.kind ≡ kinds.Main → second.kind ≡ kinds.Main → later ≡ front ++ (second ∷ rest) → ⊥
 main_alone place main later front second rest placed is also cut =
@@ -152,7 +152,7 @@ one_nest text one other first second =
     let main_lines = first.main_line ∙ ap (λ (line : SourceLine). line.number) same.mains ∙ sym second.main_line in
     λ i. record { main = mains i; groups = groups i; lines = lines i; main_line = main_lines i }
 
--- ---- One line that strays
+-- ---- One line that is not allowed
 
 placed_at : (place : Place) (before : List SourceLine) (line : SourceLine) (later : List SourceLine) → are_placed place (before ++ (line ∷ later)) ≡ true
     → may_stand (place_behind place before) line.kind ≡ true

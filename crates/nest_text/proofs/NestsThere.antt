@@ -1,4 +1,4 @@
--- Each nested text says a nest, or is refused.
+-- Each nested text has a nest, or is refused.
 use Rattle.std.proofs.Common.{◌≡◌, ℕ, ◌+◌, ◌-◌, ◌≤◌, ◌<◌, Bool, true, false, List, [], ◌∷◌, ◌++◌, map, length, get_or, inl, inr, Option, Some, None, refl, ap, subst, arith}
 use Rattle.std.specs.Prelude.{◌||◌, ◌⊎◌, nat_lt}
 use Rattle.std.specs.List.{AllByRecursion, AllZip, flat_map}
@@ -45,7 +45,7 @@ found_main : (lines : List SourceLine) → has_main lines ≡ true → FoundMain
 found_main [] some = absurd (cc)
 found_main (line ∷ lines) some = found_by line lines (is_main line.kind) refl (λ later. found_main lines later) some
 
--- The cut of a text, with lines that are whole.
+-- The parts of a text, with complete lines.
 record CutThere (text : List ℕ) : Type 0 where
   cut : IsCut text
   whole : AllByRecursion (λ line. IsWhole line.bytes) cut.front
@@ -77,7 +77,7 @@ cut_there text lines are some placed =
 abbrev GroupsTold : List GroupLines → Type 0
 GroupsTold groups = ((made : List Group) × AllZip IsGroupOf groups made) ⊎ ((number : ℕ) × (rule : ℕ) × RefusesGroups groups number rule)
 
--- What a group's text says, as a group.
+-- The group of a group's text.
 abbrev said : GroupLines → System → Group
 said lines system = record {
   name = lines.name;

@@ -8,7 +8,7 @@ use Rattle.unit_tree.specs.Blocks.{open_blocks}
 use Rattle.unit_tree.specs.Texts.{Breaks, HaveForms, IsRefused, IsUnended}
 use Rattle.unit_tree.specs.declared.line_form.LineForm.{LineForm}
 
--- A line of so many, or the first where there is none.
+-- A number of a line, or the first where there are no lines.
 pub record IsLineOf (count number : ℕ) : Type 0 where
   pub first : 1 ≤ number
   pub last : number ≤ count + 1

@@ -1,4 +1,4 @@
--- A text that is cut at one of its lines.
+-- A text that is split at one of its lines.
 use Rattle.std.proofs.Common.{◌≡◌, ℕ, ◌+◌, ◌-◌, ◌≤◌, ◌<◌, Bool, true, false, List, [], ◌∷◌, ◌++◌, map, length, take, inl, inr, Some, None}
 use Rattle.std.proofs.Common.{refl, sym, ap, ap₂, subst, ◌∙◌, arith, append_assoc, append-nil, length-append}
 use Rattle.std.specs.Prelude.{◌⊎◌, ◌==◌, not, ◌&&◌, ◌||◌, if◌then◌else◌, IsTrue}
@@ -25,7 +25,7 @@ use Rattle.nest_text.proofs.LineWalks.{lines_there, next_line, none_left, none_s
 abbrev pub ended : List (List ℕ) → List ℕ
 ended lines = flat_map (λ line. line ++ 10 ∷ []) lines
 
--- No end stands in the line.
+-- There is no line end in the line.
 abbrev pub IsWhole : List ℕ → Type 0
 IsWhole line = IsTrue (list_all (λ byte. not (byte == 10)) line)
 
@@ -54,7 +54,7 @@ whole_lines first [] (line ∷ lines) are whole = absurd are
 whole_lines first (one ∷ all) [] are whole = absurd are
 whole_lines first (one ∷ all) (line ∷ lines) are whole = (subst IsWhole (sym are.0.bytes) whole.0, whole_lines (first + 1) all lines are.1 whole.1)
 
--- no line of a text has an end in it
+-- no line of a text has a line end in it
 pub are_whole : (first : ℕ) (text : List ℕ) (lines : List SourceLine) → AreLines first text lines → AllByRecursion (λ line. IsWhole line.bytes) lines
 are_whole first text lines are = whole_lines first (lines_of text) lines are (all_whole text)
 
@@ -62,7 +62,7 @@ pub whole_bytes : (lines : List SourceLine) → AllByRecursion (λ line. IsWhole
 whole_bytes [] whole = tt
 whole_bytes (line ∷ lines) whole = (whole.0, whole_bytes lines whole.1)
 
--- ---- The front of a text
+-- ---- The beginning of a text
 
 bytes_of : (first : ℕ) (all : List (List ℕ)) (lines : List SourceLine) → AllZip IsLine (enumerate_from first all) lines
     → map (λ (line : SourceLine). line.bytes) lines ≡ all
@@ -83,7 +83,7 @@ front_lines first (one ∷ all) (line ∷ front) later are = (
   front_lines (first + 1) all front later are.1,
 )
 
--- The lines of a text up to the one behind which this rest stands, of which none is `main`.
+-- The lines of a text up to the one before this rest, none of which is `main`.
 pub record MainLeft (text rest : List ℕ) (number : ℕ) : Type 0 where
   pub lines : List SourceLine
   pub are_lines : AreLines 1 text lines
@@ -110,7 +110,7 @@ main_begin text =
       within = omega arith;
     }
 
--- What a cut says of what stands before and behind.
+-- What is known of the texts before and after a cut.
 abbrev IsCutOff : List ℕ → List ℕ → List ℕ → Type 0
 IsCutOff rest line behind = (rest ≡ line ++ 10 ∷ behind) ⊎ ((rest ≡ line) × (behind ≡ []))
 

@@ -3,7 +3,7 @@ use Rattle.std.specs.Prelude.{◌≡◌, ◌⊎◌, ℕ, List}
 use Rattle.nest_text.specs.Nests.{IsNestOf, RefusesNest}
 use Rattle.nest_text.specs.declared.nest.Nest.{Nest}
 
--- A nested text says one nest, or is refused at one line by one rule, and not both.
+-- A nested text has one nest, or is refused at one line by one rule, and not both.
 pub record IsNestedOnce (text : List ℕ) : Type 0 where
   pub answered : ((nest : Nest) × IsNestOf text nest) ⊎ ((line : ℕ) × (rule : ℕ) × RefusesNest text line rule)
   pub one_nest : (one other : Nest) → IsNestOf text one → IsNestOf text other → one ≡ other

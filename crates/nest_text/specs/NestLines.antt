@@ -1,7 +1,7 @@
--- Lines of nested texts: the kinds that they have, and where each may stand.
+-- Lines of nested texts: their kinds, and where each is allowed.
 --
--- A nested text is a list of parts. A line `group G` begins each but the last, which the line `main` begins. Names may be those of
--- the language: `group`, `main`, `in` and `out` are no reserved words.
+-- A nested text is a list of parts. Each part begins with a line `group G`, except the last one, which begins with the
+-- line `main`. `group`, `main`, `in` and `out` are not reserved, so names may be these words.
 use Rattle.std.specs.Prelude.{◌≡◌, ◌⊎◌, ℕ, Bool, true, false, ◌&&◌, List, [], ◌∷◌, codes, IsTrue}
 use Rattle.std.specs.List.{AllZip, enumerate_from}
 use Rattle.unit_tree.specs.LineForms.{HasForm, port_tokens}
@@ -34,7 +34,7 @@ in_tokens bind = token.Name (codes "in") ∷ token.Name bind.port ∷ symbol sig
 abbrev pub out_tokens : Bind → List Token
 out_tokens bind = token.Name (codes "out") ∷ token.Name bind.port ∷ symbol sign.Is ∷ port_tokens bind.inner
 
--- The line, without its end, is of the kind, which says more than that it is another line.
+-- The line, without its end, has the kind, which is not `Other`.
 abbrev pub HasKind : List ℕ → Kind → Type 0
 HasKind line (kinds.Begins name) = Spells (group_tokens name) (code_of line)
 HasKind line kinds.Main = Spells main_tokens (code_of line)
@@ -46,13 +46,13 @@ HasKind line kinds.Connects = (wire : Wire) × HasForm (form.Connect wire) line
 HasKind line kinds.Blank = IsTrue (is_blank_line line)
 HasKind line kinds.Other = ⊥
 
--- Each line has one kind: it is another line where it is of no kind.
+-- Each line has one kind: it is `Other` where it has no other kind.
 abbrev pub IsKind : List ℕ → Kind → Type 0
 IsKind line kind = HasKind line kind ⊎ ((kind ≡ kinds.Other) × ((some : Kind) → HasKind line some → ⊥))
 
 -- ---- Places
 
--- The place behind a line.
+-- The place after a line.
 abbrev pub place_after : Place → Kind → Place
 place_after places.InMain kind = places.InMain
 place_after place kinds.Main = places.InMain
@@ -62,8 +62,9 @@ place_after place kinds.Opens = places.InBlock
 place_after place kinds.Ends = places.InGroup
 place_after place kind = place
 
--- Whether a line may stand there. Before the parts all lines are blank. A group has blank lines and those of five kinds, and `in` and
--- `out` lines in no block. What stands behind `main` is left to the reader of the language, but for a second `main`.
+-- Whether a line is allowed there. Before the parts all lines are blank. A group has blank lines and lines of five
+-- kinds, but `in` and `out` lines only outside blocks. The reader of the language judges all that follows `main`,
+-- except that a second `main` is not allowed.
 abbrev pub may_stand : Place → Kind → Bool
 may_stand places.InMain kinds.Main = false
 may_stand places.InMain kind = true
@@ -84,22 +85,22 @@ pub record SourceLine : Type 0 where
   pub bytes : List ℕ
   pub kind : Kind
 
--- The line has this number and these bytes, and the kind that they have. A CR belongs to the end.
+-- The line has this number, these bytes, and their kind. A CR belongs to the end of the line.
 pub record IsLine (numbered : ℕ × List ℕ) (line : SourceLine) : Type 0 where
   pub number : line.number ≡ numbered.0
   pub bytes : line.bytes ≡ numbered.1
   pub kind : IsKind (without_return numbered.1) line.kind
 
--- The lines are those of a text, numbered from this number on.
+-- The lines are those of a text, numbered from `first` on.
 abbrev pub AreLines : ℕ → List ℕ → List SourceLine → Type 0
 AreLines first text lines = AllZip IsLine (enumerate_from first (lines_of text)) lines
 
--- Each line may stand behind those before it.
+-- Each line is allowed after those before it.
 abbrev pub are_placed : Place → List SourceLine → Bool
 are_placed place [] = true
 are_placed place (line ∷ lines) = may_stand place line.kind && are_placed (place_after place line.kind) lines
 
--- The place behind lines that begin at the first place.
+-- The place after lines that begin at the first place.
 abbrev pub place_behind : Place → List SourceLine → Place
 place_behind place [] = place
 place_behind place (line ∷ lines) = place_behind (place_after place line.kind) lines

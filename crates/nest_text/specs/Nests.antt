@@ -1,10 +1,10 @@
--- What a nested text says, and at which line and by which rule any other text is refused.
+-- The nest of a nested text, and at which line and by which rule any other text is refused.
 --
 --   rule 2            the text is too long
---   rule 26           a line may not stand where it is, or there is no line `main`
---   rules 1, 3 to 7   the reader refuses a part: the lines of a group but for `in` and `out`, or those behind `main`
+--   rule 26           a line is not allowed where it is, or there is no line `main`
+--   rules 1, 3 to 7   the reader refuses a part: the lines of a group except `in` and `out`, or those after `main`
 --
--- They are judged in this order, and the parts in theirs.
+-- They are judged in this order, and the parts in their order.
 use Rattle.std.specs.Prelude.{◌≡◌, ◌⊎◌, ◌≤◌, ◌<◌, ℕ, ◌+◌, ◌-◌, Bool, true, false, List, [], ◌∷◌, ◌++◌, map, codes, Some, IsTrue, IsFalse, slice_get}
 use Rattle.std.specs.List.{AllByRecursion, AllZip, flat_map, list_any}
 use Rattle.unit_tree.specs.Lines.{lines_of, size_of}
@@ -21,7 +21,7 @@ use Rattle.nest_text.specs.declared.place.Place.TheVariants.{BeforeParts}
 
 -- ---- Groups as lines
 
--- A group by its lines: its name and the number of the line with it, and the lines behind that, up to the next part.
+-- A group as lines: its name, the number of the line with its name, and the lines after that line, up to the next part.
 pub record GroupLines : Type 0 where
   pub name : List ℕ
   pub head : ℕ
@@ -32,7 +32,7 @@ pub record Parted : Type 0 where
   pub front : List SourceLine
   pub groups : List GroupLines
 
--- One line more, at the front.
+-- With one more line, before the others.
 abbrev pub with_line : SourceLine → Kind → Parted → Parted
 with_line line (kinds.Begins name) parted =
     record { front = []; groups = record { name = name; head = line.number; body = parted.front } ∷ parted.groups }
@@ -46,9 +46,9 @@ parted (line ∷ lines) = with_line line line.kind (parted lines)
 abbrev pub groups_of : List SourceLine → List GroupLines
 groups_of lines = (parted lines).groups
 
--- ---- What the reader gets of a group
+-- ---- What the reader reads of a group
 
--- What a line with such a kind tells the reader: nothing where it is an `in` or `out` line.
+-- What a line of such a kind adds for the reader: nothing where it is an `in` or `out` line.
 abbrev pub of_kept : {A : Type 0} → Kind → List A → List A
 of_kept (kinds.In bind) told = []
 of_kept (kinds.Out bind) told = []
@@ -60,11 +60,12 @@ kept_text line = of_kept line.kind (line.bytes ++ 10 ∷ [])
 abbrev pub kept_number : SourceLine → List ℕ
 kept_number line = of_kept line.kind (line.number ∷ [])
 
--- The text of a group: a header of its own, and the lines but for `in` and `out`.
+-- The text of a group that the reader reads: a header of its own, and the lines except `in` and `out`.
 abbrev pub given : GroupLines → List ℕ
 given group = codes "cosim 1\n" ++ flat_map kept_text group.body
 
--- The lines of the nested text that those of the group's text come from. That of the header is the one with the group's name.
+-- The lines of the nested text from which those of the group's text come. The header comes from the line with the
+-- group's name.
 abbrev pub numbers : GroupLines → List ℕ
 numbers group = group.head ∷ flat_map kept_number group.body
 
@@ -76,9 +77,9 @@ abbrev pub out_on : Kind → List Bind
 out_on (kinds.Out bind) = bind ∷ []
 out_on kind = []
 
--- ---- What the parts say
+-- ---- The parts of a nest
 
--- The lines of a group say the group: its `in` and `out` lines, and what the reader tells of the others.
+-- The lines of a group give the group: its `in` and `out` lines, and what the reader reads of the others.
 pub record IsGroupOf (lines : GroupLines) (group : Group) : Type 0 where
   pub name : group.name ≡ lines.name
   pub ins : group.ins ≡ flat_map (λ line. in_on line.kind) lines.body
@@ -88,7 +89,7 @@ pub record IsGroupOf (lines : GroupLines) (group : Group) : Type 0 where
   pub instances : group.instances ≡ system.instances
   pub wires : group.wires ≡ system.wires
 
--- A text has parts: a line `main`, with lines before and behind it, each where it may stand.
+-- A text has parts: a line `main`, with lines before and after it, each where it is allowed.
 pub record IsCut (text : List ℕ) : Type 0 where
   pub lines : List SourceLine
   pub are_lines : AreLines 1 text lines
@@ -98,11 +99,11 @@ pub record IsCut (text : List ℕ) : Type 0 where
   pub later : List SourceLine
   pub cut : lines ≡ front ++ (main ∷ later)
   pub is_main : main.kind ≡ kinds.Main
-  -- The text behind `main`.
+  -- The text after `main`.
   pub rest : List ℕ
   pub rest_is : lines_of rest ≡ map (λ line. line.bytes) later
 
--- The nest is what the text says.
+-- The nest is that of the text.
 pub record IsNestOf (text : List ℕ) (nest : Nest) : Type 0 where
   pub short : size_of text ≤ text_limit
   pub cut : IsCut text
@@ -113,7 +114,7 @@ pub record IsNestOf (text : List ℕ) (nest : Nest) : Type 0 where
 
 -- ---- Texts that are refused
 
--- A line of the text may not stand where it is, and all lines before it may.
+-- A line of the text is not allowed where it is, and all lines before it are.
 pub record StraysAt (lines : List SourceLine) (number : ℕ) : Type 0 where
   pub before : List SourceLine
   pub line : SourceLine
@@ -130,13 +131,14 @@ is_main kind = false
 abbrev pub has_main : List SourceLine → Bool
 has_main lines = list_any (λ line. is_main line.kind) lines
 
--- The text breaks rule 26 at the line: at line 1 where it has no line `main`, and else at the first line that may not stand where it is.
+-- The text breaks rule 26 at the line: at line 1 where it has no line `main`, else at the first line that is not
+-- allowed where it is.
 pub record BreaksParts (text : List ℕ) (number : ℕ) : Type 0 where
   pub lines : List SourceLine
   pub are_lines : AreLines 1 text lines
   pub breaks : (IsFalse (has_main lines) × (number ≡ 1)) ⊎ (IsTrue (has_main lines) × StraysAt lines number)
 
--- The lines say some group.
+-- The lines give a group.
 abbrev pub IsRead : GroupLines → Type 0
 IsRead lines = (group : Group) × IsGroupOf lines group
 
@@ -156,7 +158,8 @@ pub record RefusesGroups (groups : List GroupLines) (number rule : ℕ) : Type 0
   pub read : AllByRecursion IsRead before
   pub refuses : RefusesGroup group number rule
 
--- The reader refuses what stands behind `main`, whose lines are counted on. Where nothing stands there, it is the line behind `main`.
+-- The reader refuses what follows `main`. Its lines are counted from there, so line 1 is the line after `main`, also
+-- where nothing follows it.
 pub record RefusesMain (rest : List ℕ) (main number rule : ℕ) : Type 0 where
   pub line : ℕ
   pub refused : IsRefused rest line rule

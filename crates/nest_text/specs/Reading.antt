@@ -1,4 +1,4 @@
--- How nested texts are read: lines by their tokens, and parts one after the other.
+-- How nested texts are read: lines by their tokens, and parts in turn.
 use Rattle.std.specs.Prelude.{◌≡◌, ℕ, ◌+◌, ◌-◌, Bool, true, false, List, [], ◌∷◌, ◌++◌, map, codes, Option, Some, None, Result, Ok, Err, ⊤, if◌then◌else◌, IsTrue, IsFalse, slice_get}
 use Rattle.std.specs.Borrow.{Bor}
 use Rattle.std.specs.List.{AllZip, flat_map}
@@ -27,7 +27,7 @@ use Rattle.nest_text.specs.declared.place.Place.TheVariants.{BeforeParts}
 
 -- ---- Kinds by tokens
 
--- What stands behind `group`, `main`, `in` and `out`.
+-- The kinds of lines that begin with `group`, `main`, `in` and `out`, from the tokens after that word.
 abbrev pub group_kind : List Token → Kind
 group_kind (token.Name name ∷ []) = kinds.Begins name
 group_kind _ = kinds.Other
@@ -53,7 +53,7 @@ named_kind word rest =
     if bytes_eq word (codes "in") then in_kind rest else (
     if bytes_eq word (codes "out") then out_kind rest else kinds.Other)))
 
--- What stands behind `end`, `instance` and `connect`.
+-- The kinds of lines that begin with `end`, `instance` and `connect`, from the tokens after that word.
 abbrev pub ends : List Token → Kind
 ends [] = kinds.Ends
 ends _ = kinds.Other
@@ -87,18 +87,18 @@ abbrev pub name_begun : Kind → Option (List ℕ)
 name_begun (kinds.Begins name) = Some name
 name_begun kind = None
 
--- ---- Along lines
+-- ---- Line by line
 
--- What is said of a text's lines, which are numbered from a number on.
+-- A property of a text's lines, which are numbered from `first` on.
 abbrev pub OfLines : ℕ → List ℕ → (List SourceLine → Type 0) → Type 0
 OfLines first text Says = (lines : List SourceLine) → AreLines first text lines → Says lines
 
--- The number of the first line that may not stand where it is.
+-- The number of the first line that is not allowed where it is.
 abbrev pub first_stray : Place → List SourceLine → Option ℕ
 first_stray place [] = None
 first_stray place (line ∷ lines) = if may_stand place line.kind then first_stray (place_after place line.kind) lines else Some line.number
 
--- The lines have a line `main` of this number, and these texts stand before and behind it.
+-- The lines have a line `main` with this number, and these are the texts before and after it.
 pub record HasMainAt (lines : List SourceLine) (front : List ℕ) (number : ℕ) (rest : List ℕ) : Type 0 where
   pub before : List SourceLine
   pub main : SourceLine
@@ -113,7 +113,7 @@ abbrev pub MainIs : List SourceLine → Option (Bor (List ℕ) × ℕ × Bor (Li
 MainIs lines None = IsFalse (has_main lines)
 MainIs lines (Some (front, number, rest)) = HasMainAt lines front.now number rest.now
 
--- What is answered for a text without a line that strays, or with one, or without `main`.
+-- A text that was cut at its line `main`: each of its lines is allowed where it is.
 pub record CutsText (text front : List ℕ) (number : ℕ) (rest : List ℕ) : Type 0 where
   pub lines : List SourceLine
   pub are_lines : AreLines 1 text lines
@@ -127,37 +127,37 @@ CutAnswers text (Err fault.NoMemory) = ⊤
 
 -- ---- Groups
 
--- A line is added to what is gathered of a group.
+-- A line is added to what was collected of a group.
 pub record AddsLine (old new : Body) (line : SourceLine) : Type 0 where
   pub ins : new.ins ≡ old.ins ++ in_on line.kind
   pub outs : new.outs ≡ old.outs ++ out_on line.kind
   pub text : new.text.items ≡ old.text.items ++ kept_text line
   pub numbers : new.numbers ≡ old.numbers ++ kept_number line
 
--- Lines are.
+-- Lines are added, in their order.
 pub record AddsLines (old new : Body) (lines : List SourceLine) : Type 0 where
   pub ins : new.ins ≡ old.ins ++ flat_map (λ line. in_on line.kind) lines
   pub outs : new.outs ≡ old.outs ++ flat_map (λ line. out_on line.kind) lines
   pub text : new.text.items ≡ old.text.items ++ flat_map kept_text lines
   pub numbers : new.numbers ≡ old.numbers ++ flat_map kept_number lines
 
--- The lines up to the next group are added. Behind them stands this rest, whose lines are counted on from this number.
+-- The lines up to the next group are added. This rest follows them, whose lines are numbered after this number.
 pub record Gathers (lines : List SourceLine) (old new : Body) (rest : List ℕ) (number : ℕ) : Type 0 where
   pub left : List SourceLine
   pub are_left : AreLines (number + 1) rest left
   pub added : AddsLines old new (parted lines).front
   pub groups : groups_of left ≡ groups_of lines
 
--- All lines of a group are gathered.
+-- All lines of a group are collected.
 pub record IsGathered (body : Body) (lines : GroupLines) : Type 0 where
   pub ins : body.ins ≡ flat_map (λ line. in_on line.kind) lines.body
   pub outs : body.outs ≡ flat_map (λ line. out_on line.kind) lines.body
   pub text : body.text.items ≡ given lines
   pub numbers : body.numbers ≡ numbers lines
 
--- ---- Answers of the reader
+-- ---- Results of the reader
 
--- What a text says inside a group.
+-- The instances and connections of a text inside a group.
 pub record SaysInside (text : List ℕ) (instances : List Instance) (wires : List Wire) : Type 0 where
   pub system : System
   pub reads : Reads text system
@@ -174,7 +174,7 @@ GroupAnswers lines (Ok group) = IsGroupOf lines group
 GroupAnswers lines (Err (fault.Line number rule)) = RefusesGroup lines number rule
 GroupAnswers lines (Err fault.NoMemory) = ⊤
 
--- The group of this name, with these lines behind its own, is read, and what stands behind it has this rest.
+-- The group of this name, with these lines after its own, is read. This rest follows it.
 pub record IsNextGroup (name : List ℕ) (head : ℕ) (lines : List SourceLine) (group : Group) (rest : List ℕ) (number : ℕ) : Type 0 where
   pub is_group : IsGroupOf (record { name = name; head = head; body = (parted lines).front }) group
   pub left : List SourceLine
@@ -196,7 +196,8 @@ MainAnswers rest main (Ok system) = Reads rest system
 MainAnswers rest main (Err (fault.Line number rule)) = RefusesMain rest main number rule
 MainAnswers rest main (Err fault.NoMemory) = ⊤
 
--- The answer to a nested text: the nest that it says, or the line and the rule by which it is refused. Want of memory says nothing.
+-- The result for a nested text: its nest, or the line and the rule by which it is refused. Without memory nothing is
+-- stated.
 abbrev pub AnswersNest : List ℕ → Result Nest NestFault → Type 0
 AnswersNest text (Ok nest) = IsNestOf text nest
 AnswersNest text (Err (fault.Line number rule)) = RefusesNest text number rule

@@ -3,7 +3,7 @@ ghost use Rattle.std.specs.Prelude.{◌≡◌};
 use fixed_words::NoMemory;
 use thiserror::Error;
 
-/// Why a nested text gives no system.
+/// Why a nested text has no nest.
 #[derive(Clone, Copy, Debug, PartialEq, Eq, Error)]
 pub enum NestFault {
     /// The text breaks a rule at a line, counted from 1.

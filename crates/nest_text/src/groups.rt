@@ -1,4 +1,4 @@
-//! Groups of a nested text, gathered and read one after the other.
+//! Groups of a nested text, collected and read in turn.
 ghost use Rattle.std.specs.Prelude.{◌≡◌, ◌<◌, ◌≤◌, ◌+◌, ◌∷◌, ◌++◌, [], codes, length, IfOk, OnOk};
 ghost use Rattle.unit_tree.specs.Lines.{lines_of};
 ghost use Rattle.model_rules.specs.Limits.{text_limit};
@@ -15,22 +15,22 @@ use text_tokens::cut_line;
 use unit_text::{ReadText, TextFault, read_system};
 use unit_tree::{Instance, Name, System, Wire};
 
-/// The line that the reader gets in front of a group's. No line of a group is of version 2 alone.
+/// The line that the reader reads before those of a group. No line of a group is one that only version 2 has.
 const HEADER: &[u8] = b"cosim 1\n";
 
-/// What is gathered of a group's lines.
+/// What was collected of a group's lines.
 #[derive(Debug, Drop)]
 pub struct Body {
     pub ins: List<Bind>,
     pub outs: List<Bind>,
-    /// The other lines, behind a header, as the text that the reader gets.
+    /// The other lines, after a header, as the text that the reader reads.
     pub text: Vec<u8>,
-    /// The lines of the nested text that those of this text come from.
+    /// For each line of this text, the number of the line of the nested text from which it comes.
     pub numbers: List<u32>,
 }
 
 impl Body {
-    /// What is gathered before the lines of a group which begins at this line.
+    /// Returns the collection before the lines of a group that begins at line `head`.
     fn new(alloc: Global, head: u32) -> Result<Body, NoMemory>
         ensures { IfOk result (λ body. IsGathered body (record { name = []; head = head; body = [] })) }
     {
@@ -45,7 +45,7 @@ impl Body {
         })
     }
 
-    /// Adds a line that the reader gets.
+    /// Adds a line for the reader.
     fn keep(&mut self, line: &[u8], number: u32) -> Result<(), NoMemory>
         ensures ins { self.new.ins ≡ self.old.ins }
         ensures outs { self.new.outs ≡ self.old.outs }
@@ -74,8 +74,8 @@ impl Body {
     }
 }
 
-/// Gathers the lines of a text up to the one that begins the next group. The number is that of the line before the text. Tells what
-/// stands behind these lines, and the number of the last of them.
+/// Collects the lines of a text up to the one that begins the next group. `before` is the number of the line before the
+/// text. Returns the text after these lines, and the number of the last of them.
 fn gather<'t>(
     alloc: Global,
     text: &'t [u8],
@@ -103,7 +103,7 @@ fn gather<'t>(
     Ok((rest, number))
 }
 
-/// What a system says inside a group.
+/// The parts of a system that a group has.
 fn inside_of(system: System) -> (List<Instance>, List<Wire>)
     ensures instances { result.0 ≡ system.instances }
     ensures wires { result.1 ≡ system.wires }
@@ -116,7 +116,7 @@ fn inside_of(system: System) -> (List<Instance>, List<Wire>)
     (instances, wires)
 }
 
-/// What the text of a group says, whose lines come from those of these numbers.
+/// Reads the text of a group, whose lines come from the lines with these numbers.
 fn read_inside(
     alloc: Global,
     text: &[u8],
@@ -136,7 +136,7 @@ fn read_inside(
     }
 }
 
-/// The group of this name that is gathered.
+/// Reads the group of this name from its collected lines.
 fn read_group(alloc: Global, name: Name, body: Body) -> Result<Group, NestFault>
     requires some { 0 < length body.numbers }
     requires long { length body.numbers ≡ length (lines_of body.text.items) }
@@ -153,8 +153,8 @@ fn read_group(alloc: Global, name: Name, body: Body) -> Result<Group, NestFault>
     })
 }
 
-/// The group that begins at the line of this number, and stands at the front of a text; with what stands behind it, and the number of
-/// the last of its lines.
+/// Reads the group that begins at the line with this number, from a text that begins with its lines. Returns it with
+/// the text after it, and the number of the last of its lines.
 fn next_group(
     alloc: Global,
     name: Name,
@@ -172,7 +172,7 @@ fn next_group(
     Ok((group, rest, number))
 }
 
-/// The groups of the lines before `main`, with the numbers of the lines that they begin with.
+/// Reads the groups of the lines before `main`, with the numbers of the lines at which they begin.
 pub(crate) fn read_groups(alloc: Global, text: &[u8]) -> Result<(List<Group>, List<u32>), NestFault>
     requires { length text.now ≤ text_limit }
     ensures { OfLines 1 text.now (λ lines. GroupsAnswer (groups_of lines) result) }

@@ -24,7 +24,7 @@ const IN: &[u8] = b"in";
 
 const OUT: &[u8] = b"out";
 
-/// What a line of a nested text is, as far as parts are told apart by it.
+/// The kind of a line of a nested text, by which parts are found.
 #[derive(Debug, Drop)]
 pub enum Kind {
     /// `group G`, which begins a group.
@@ -74,7 +74,7 @@ impl Kind {
     }
 }
 
-/// How many bytes stand before the comment.
+/// How many bytes come before the comment.
 fn code_length(line: &[u8]) -> usize
     ensures length { result ≡ prefix_len (λ byte. not (byte == 35)) line.now }
     ensures within { result ≤ length line.now }
@@ -82,7 +82,7 @@ fn code_length(line: &[u8]) -> usize
     line.iter().take_while(|byte| **byte != COMMENT).count()
 }
 
-/// What stands before the comment.
+/// The bytes before the comment.
 fn code(line: &[u8]) -> &[u8]
     ensures { result.now ≡ code_of line.now }
 {
@@ -110,7 +110,7 @@ fn bind(alloc: Global, port: &Name, instance: &Name, inner: &Name) -> Result<Bin
     })
 }
 
-/// A line `group`, by the tokens behind its first.
+/// A line that begins with `group`, from the tokens after it.
 fn group_kind(alloc: Global, rest: &[Token]) -> Result<Kind, NoMemory>
     ensures { IfOk result (λ kind. kind ≡ group_kind rest.now) }
 {
@@ -120,7 +120,7 @@ fn group_kind(alloc: Global, rest: &[Token]) -> Result<Kind, NoMemory>
     }
 }
 
-/// A line `main`, by the tokens behind its first.
+/// A line that begins with `main`, from the tokens after it.
 fn main_kind(rest: &[Token]) -> Kind
     ensures { result ≡ main_kind rest.now }
 {
@@ -130,7 +130,7 @@ fn main_kind(rest: &[Token]) -> Kind
     }
 }
 
-/// A line `in`, by the tokens behind its first.
+/// A line that begins with `in`, from the tokens after it.
 fn in_kind(alloc: Global, rest: &[Token]) -> Result<Kind, NoMemory>
     ensures { IfOk result (λ kind. kind ≡ in_kind rest.now) }
 {
@@ -146,7 +146,7 @@ fn in_kind(alloc: Global, rest: &[Token]) -> Result<Kind, NoMemory>
     }
 }
 
-/// A line `out`, by the tokens behind its first.
+/// A line that begins with `out`, from the tokens after it.
 fn out_kind(alloc: Global, rest: &[Token]) -> Result<Kind, NoMemory>
     ensures { IfOk result (λ kind. kind ≡ out_kind rest.now) }
 {
@@ -162,7 +162,7 @@ fn out_kind(alloc: Global, rest: &[Token]) -> Result<Kind, NoMemory>
     }
 }
 
-/// A line that begins with a name, by it and the tokens behind it.
+/// A line that begins with a name, from the name and the tokens after it.
 fn named_kind(alloc: Global, word: &[u8], rest: &[Token]) -> Result<Kind, NoMemory>
     ensures { IfOk result (λ kind. kind ≡ named_kind word.now rest.now) }
 {
@@ -179,7 +179,7 @@ fn named_kind(alloc: Global, word: &[u8], rest: &[Token]) -> Result<Kind, NoMemo
     }
 }
 
-/// Whether tokens are those behind `instance`.
+/// The kind of a line that begins with `instance`, from the tokens after it.
 fn opens(rest: &[Token]) -> Kind
     ensures { result ≡ opens rest.now }
 {
@@ -189,7 +189,7 @@ fn opens(rest: &[Token]) -> Kind
     }
 }
 
-/// Whether tokens are those behind `connect`.
+/// The kind of a line that begins with `connect`, from the tokens after it.
 fn connects(rest: &[Token]) -> Kind
     ensures { result ≡ connects rest.now }
 {
@@ -207,7 +207,7 @@ fn connects(rest: &[Token]) -> Kind
     }
 }
 
-/// A line that begins with a keyword, by it and the tokens behind it.
+/// A line that begins with a keyword, from the keyword and the tokens after it.
 fn keyword_kind(keyword: Keyword, rest: &[Token]) -> Kind
     ensures { result ≡ keyword_kind keyword rest.now }
 {

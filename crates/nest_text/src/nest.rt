@@ -1,8 +1,9 @@
-//! Nests: what nested texts say.
+//! Nests: the contents of nested texts.
 use fixed_words::List;
 use unit_tree::{Instance, Name, PortName, System, Wire};
 
-/// A line of a group that gives a port of its own to a port inside: `in u -> a.v` or `out y = a.w`.
+/// A line of a group that connects a port of the group with a port inside.
+/// It is `in u -> a.v` or `out y = a.w`.
 #[derive(Debug, Drop)]
 pub struct Bind {
     /// The port of the group.
@@ -11,11 +12,11 @@ pub struct Bind {
     pub inner: PortName,
 }
 
-/// A group: components and groups with connections, and the ports that are seen from outside.
+/// A group: components and groups with connections, and the ports that others can connect to.
 #[derive(Debug, Drop)]
 pub struct Group {
     pub name: Name,
-    /// Several may have one port, which then feeds several inner inputs.
+    /// Several may have the same port, which is then connected to several inner inputs.
     pub ins: List<Bind>,
     pub outs: List<Bind>,
     /// Their units are units of the system, or groups. They have no settings.
@@ -23,12 +24,13 @@ pub struct Group {
     pub wires: List<Wire>,
 }
 
-/// What a nested text says: a system whose instances may name groups as their units, and the groups.
+/// The content of a nested text: a system whose instances may have groups as their units, and the
+/// groups.
 #[derive(Debug, Drop)]
 pub struct Nest {
     pub main: System,
     pub groups: List<Group>,
-    /// For each group the number, from 1, of the line that it begins with.
+    /// For each group the number, from 1, of the line at which it begins.
     pub lines: List<u32>,
     /// The number of the line `main`.
     pub main_line: u32,

@@ -1,4 +1,4 @@
-//! A nested text cut at its line `main`.
+//! A nested text split at its line `main`.
 ghost use Rattle.std.specs.Prelude.{◌≡◌, ◌≤◌, ◌+◌, length, true, IfOk, IfSome};
 ghost use Rattle.model_rules.specs.Limits.{text_limit};
 ghost use Rattle.nest_text.specs.NestLines.{IsKind};
@@ -16,7 +16,7 @@ use std::alloc::Global;
 use text_lines::without_return;
 use text_tokens::cut_line;
 
-/// The number of the first line that may not stand where it is.
+/// The number of the first line that is not allowed where it is.
 fn first_stray(alloc: Global, text: &[u8]) -> Result<Option<u32>, NoMemory>
     requires { length text.now ≤ text_limit }
     ensures { IfOk result (λ stray. OfLines 1 text.now (λ lines. stray ≡ first_stray places.BeforeParts lines)) }
@@ -47,7 +47,7 @@ fn is_main_line(alloc: Global, line: &[u8]) -> Result<bool, NoMemory>
     Ok(kind.is_main())
 }
 
-/// The number of the first line `main`, with what stands before and behind it.
+/// The number of the first line `main`, with the texts before and after it.
 fn find_main(alloc: Global, text: &[u8]) -> Result<Option<(&[u8], u32, &[u8])>, NoMemory>
     requires { length text.now ≤ text_limit }
     ensures main { IfOk result (λ found. OfLines 1 text.now (λ lines. MainIs lines found)) }
@@ -68,7 +68,7 @@ fn find_main(alloc: Global, text: &[u8]) -> Result<Option<(&[u8], u32, &[u8])>, 
     Ok(None)
 }
 
-/// A text cut at its line `main`: what stands before it, its number, and what stands behind it.
+/// Splits a text at its line `main`. Returns the text before it, its number, and the text after it.
 pub(crate) fn cut_parts(alloc: Global, text: &[u8]) -> Result<(&[u8], u32, &[u8]), NestFault>
     requires { length text.now ≤ text_limit }
     ensures cut { CutAnswers text.now result }

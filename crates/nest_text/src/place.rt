@@ -1,22 +1,22 @@
-//! Where lines of a nested text stand.
+//! Places of lines in a nested text.
 ghost use Rattle.std.specs.Prelude.{◌≡◌};
 ghost use Rattle.nest_text.specs.NestLines.{place_after, may_stand};
 
 use crate::kind::Kind;
 
-/// What a line of a nested text stands behind.
+/// The place of a line of a nested text: what comes before it.
 #[derive(Clone, Copy, Debug, PartialEq, Eq)]
 pub enum Place {
     BeforeParts,
-    /// In a group, and in none of its blocks.
+    /// In a group, outside the blocks of its instances.
     InGroup,
-    /// In a group, behind an `instance` line that has no `end` yet.
+    /// In a group, after an `instance` line that has no `end` yet.
     InBlock,
     InMain,
 }
 
 impl Place {
-    /// Whether a line of the kind may stand here.
+    /// Whether a line of the kind is allowed here.
     pub(crate) fn allows(self, kind: &Kind) -> bool
         ensures { result ≡ may_stand self kind.now }
     {
@@ -31,7 +31,7 @@ impl Place {
         }
     }
 
-    /// The place behind a line of the kind.
+    /// The place after a line of the kind.
     pub(crate) fn after(self, kind: &Kind) -> Place
         ensures { result ≡ place_after self kind.now }
     {

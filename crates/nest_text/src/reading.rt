@@ -13,7 +13,7 @@ use text_tokens::size;
 use unit_text::{ReadText, TextFault, read_system};
 use unit_tree::System;
 
-/// What stands behind the line `main` of this number.
+/// Reads the system after the line `main`, whose number is `main_line`.
 fn read_main(alloc: Global, text: &[u8], main_line: u32) -> Result<System, NestFault>
     requires { main_line + length text.now ≤ text_limit }
     ensures { MainAnswers text.now main_line result }
@@ -28,11 +28,11 @@ fn read_main(alloc: Global, text: &[u8], main_line: u32) -> Result<System, NestF
     }
 }
 
-/// The nest that a nested text says.
+/// Returns the nest of a nested text.
 ///
-/// Any other text is refused. A text that is too long is refused at line 1 by rule 2, and one without a line `main` there by rule 26.
-/// Else the first line that may not stand where it is breaks rule 26; and where there is none, the reader of the language refuses the
-/// first part that breaks one of its rules, at the line of the nested text.
+/// Any other text is refused. A text that is too long is refused at line 1 by rule 2, and one without a line `main` at
+/// line 1 by rule 26. Else the first line that is not allowed where it is breaks rule 26. Where there is none, the
+/// reader of the language refuses the first part that breaks one of its rules, at the line of the nested text.
 pub fn read_nest(alloc: Global, text: &[u8]) -> Result<Nest, NestFault>
     ensures answer { AnswersNest text.now result }
 {

@@ -1,4 +1,4 @@
--- Scopes that are the same, and those inside instances, by tables.
+-- Scopes that are equal, and scopes inside instances, by tables.
 use Rattle.std.proofs.Common.{◌≡◌, ◌+◌, ℕ, List, [], ◌∷◌, ◌++◌, length, Option, Some, None, refl, sym, ap, ◌∙◌, subst}
 use Rattle.std.specs.Prelude.{slice_get}
 use Rattle.std.specs.Option.{option_and_then, option_map, option_to_list, unwrap_or}
@@ -54,7 +54,7 @@ reads_alike nest scopes group firsts base scope are at of_group offset first lin
     (λ found. option_to_list (option_and_then (λ (one : Scope). option_map (spot_in one) (slice_get (ins_of nest one.group) line)) found))
     (are offset first there base scope at of_group)
 
--- The input at the first scope that is the same.
+-- The input at the first equal scope.
 pub first_input : (f : End → List Spot) (firsts : List ℕ) (offset line : ℕ) → ReadsAlike firsts f
     → f (record { scope = unwrap_or (slice_get firsts offset) offset; line = line }) ≡ f (record { scope = offset; line = line })
 first_input f firsts offset line reads = by (slice_get firsts offset) refl
@@ -64,7 +64,7 @@ first_input f firsts offset line reads = by (slice_get firsts offset) refl
     by None at = ap (λ found. f (record { scope = unwrap_or found offset; line = line })) at
     by (Some first) at = ap (λ found. f (record { scope = unwrap_or found offset; line = line })) at ∙ sym (reads offset first line at)
 
--- The first scope that is the same, by a table.
+-- The first equal scope, by a table.
 pub first_scope : (scopes : List Scope) (group : ℕ) (firsts : List ℕ) (base : ℕ) (scope : Scope) (offset : ℕ) → AreAlike scopes group firsts
     → slice_get scopes base ≡ Some scope → scope.group ≡ Some group
     → slice_get scopes (base + unwrap_or (slice_get firsts offset) offset) ≡ slice_get scopes (base + offset)

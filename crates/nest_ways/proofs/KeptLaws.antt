@@ -1,4 +1,4 @@
--- Ports of which each is kept once, and inputs that are followed one after the other or level by level.
+-- Lists of ports with each port once, and inputs that are visited in turn or level by level.
 use Rattle.std.proofs.Common.{◌≡◌, ◌⊎◌, ℕ, zero, suc, Bool, true, false, List, [], ◌∷◌, ◌++◌, map, inl, inr, refl, sym, ap, ◌∙◌, append_assoc}
 use Rattle.std.proofs.Common.{append-nil, bytes_eq, Option, Some, None}
 use Rattle.std.specs.Prelude.{◌&&◌, ◌||◌, if◌then◌else◌, is_none}
@@ -65,7 +65,7 @@ same_self one =
     ∙ ap (λ told. told && bytes_eq one.port.port one.port.port) ((bytes_decides one.port.instance one.port.instance).1 refl)
     ∙ (bytes_decides one.port.port one.port.port).1 refl
 
--- ---- Among others
+-- ---- Ports in a list
 
 or_true : (one other : Bool) → other ≡ true → (one || other) ≡ true
 or_true true other is = refl
@@ -98,7 +98,7 @@ in_one one other is = by (same_spot one other) refl is
 
 -- ---- What is kept
 
--- One port more, which is kept already or isn't.
+-- One more port, which is kept already or isn't.
 kept_on : (kept : List Spot) (one : Spot) (others : List Spot) → list_any (same_spot one) kept ≡ true → distinct kept (one ∷ others) ≡ distinct kept others
 kept_on kept one others told = ap (λ test. if test then distinct kept others else (one ∷ distinct (kept ++ (one ∷ [])) others)) told
 
@@ -149,7 +149,7 @@ distinct-append kept (one ∷ ones) others =
         ∙ ap (λ all. one ∷ (distinct now ones ++ distinct all others)) (append_assoc kept (one ∷ []) (distinct now ones))
         ∙ ap (λ front. front ++ distinct (kept ++ front) others) (sym (kept_more kept one ones told))
 
--- Only what is there is kept.
+-- Only ports of the list are kept.
 kept_from : (kept others : List Spot) (one : Spot) → IsIn one (distinct kept others) → IsIn one others
 kept_from kept [] one is = is
 kept_from kept (first ∷ others) one is =
@@ -177,7 +177,7 @@ nothing_kept kept (one ∷ others) all =
     kept_on kept one others (all one (in_first one others))
     ∙ nothing_kept kept others (λ other is. all other (in_behind other (one ∷ []) others is))
 
--- ---- The same are kept
+-- ---- Lists with the same ports
 
 pub same_both : (ones ones' others others' : List Spot) → SameKept ones ones' → SameKept others others' → SameKept (ones ++ others) (ones' ++ others')
 same_both ones ones' others others' front behind kept =
@@ -191,12 +191,12 @@ same_covered ones others all kept =
     ∙ ap (λ rest. distinct kept ones ++ rest) (nothing_kept (kept ++ distinct kept ones) others (λ one is. all_kept kept ones one (all one is)))
     ∙ append-nil (distinct kept ones))
 
--- Where the same are kept, the same are there.
+-- Lists that keep the same ports have the same ports.
 pub same_there : (ones others : List Spot) (one : Spot) → SameKept ones others → IsIn one others → IsIn one ones
 same_there ones others one same is =
     kept_from [] ones one (ap (list_any (same_spot one)) (same []) ∙ all_kept [] others one is)
 
--- What ports give that are given again adds nothing.
+-- Ports that were given before add nothing when they are given again.
 same_given : (f : Spot → List Spot) (given kept ones : List Spot) → ((one other : Spot) → IsIn one given → IsIn other (f one) → IsIn other kept)
     → distinct kept (flat_map f (distinct given ones)) ≡ distinct kept (flat_map f ones)
 same_given f given kept [] all = refl
@@ -273,7 +273,7 @@ ends_components nest depth (spot ∷ spots) all =
     (ends_component nest depth spot (none_at (place_at nest spot.scope.group spot.port.instance) (and_first first others all)))
     ∙ ap (λ rest. spot ∷ rest) (ends_components nest depth spots (and_second first others all))
 
--- Level by level, each port once, the same inputs are reached as way by way.
+-- The same inputs are reached level by level, with each port once, as path by path.
 reach_all : (nest : Nest) (depth : ℕ) (spots : List Spot) → reach nest depth (distinct [] spots) ≡ distinct [] (flat_map (all_ends nest depth) spots)
 reach_all nest zero spots = ap (distinct []) (sym (flat_map-itself spots))
 reach_all nest (suc depth) spots = by (reach_all nest depth (flat_map (expand nest) spots)) (list_all (is_component nest) once) refl

@@ -25,7 +25,7 @@ empty_more words one none place bit has =
     at_push (λ (k : ℕ) (each : SetWord). IsInWord each bit → HasAt words k bit) words one (λ k each at is. (each, at, is)) (λ is. absurd (none bit is)) place
     has.0 has.1 has.2
 
--- A word with more is put in the place of one.
+-- A word with more numbers takes the place of one.
 pub set_only : (words : List SetWord) (place : ℕ) (More : ℕ → Type 0) (old new : SetWord) → slice_get words place ≡ Some old
     → ((bit : ℕ) → IsInWord new bit → More bit ⊎ IsInWord old bit) → (at bit : ℕ) → HasAt (set words place new) at bit
     → ((at ≡ place) × More bit) ⊎ HasAt words at bit
@@ -51,7 +51,7 @@ dropped words zero k = ap (slice_get words) (let is : k ≡ zero + k = omega ari
 dropped [] (suc n) k = refl
 dropped (word ∷ words) (suc n) k = dropped words n k ∙ ap (slice_get (word ∷ words)) (let is : suc (n + k) ≡ suc n + k = omega arith in is)
 
--- Words that have the bits of others so many places behind.
+-- Words that have the bits of others, a number of places later.
 pub number_to : (one other : NumberSet) (ahead : ℕ) → one.start ≡ other.start + ahead
     → ((place bit : ℕ) → HasAt one.words.items place bit → HasAt other.words.items (ahead + place) bit) → (number : ℕ) → HasNumber one number
     → HasNumber other number
@@ -101,7 +101,7 @@ number_only old new place bit number start is has one held = by (has held.place 
         inl (told ∙ ap (λ n. (old.start + n) * 64 + held.bit) here.0 ∙ ap (λ n. (old.start + place) * 64 + n) here.1 ∙ sym is)
     by (inr there) = inr (record { place = held.place; bit = held.bit; has = there; is = told })
 
--- Words without those before, of which none has a bit.
+-- Words without the first ones, none of which has a bit.
 pub trimmed_same : (words : List SetWord) (one made : NumberSet) (empty : ℕ) → one.words.items ≡ words → made.start ≡ one.start + empty
     → made.words.items ≡ drop empty words → ((place bit : ℕ) → HasAt words place bit → empty ≤ place) → HasSame made one
 trimmed_same words one made empty of start left least number = (back, there)
@@ -135,7 +135,7 @@ trimmed_same words one made empty of start left least number = (back, there)
           is = omega (arith, is, start, low);
         }
 
--- Only numbers of a word of another set come.
+-- Only numbers of a word of another set are added.
 pub word_comes : (old new other : NumberSet) (word : SetWord) (ahead place there : ℕ) → new.start ≡ old.start → other.start ≡ old.start + ahead
     → there ≡ ahead + place → slice_get other.words.items place ≡ Some word
     → ((at bit : ℕ) → HasAt new.words.items at bit → ((at ≡ there) × IsInWord word bit) ⊎ HasAt old.words.items at bit)
@@ -205,16 +205,16 @@ word_either one other number is = by (cases_eq (bit_at one.bits number) 1)
     by (inr not_here) =
         inr (omega (arith, is, not_here, bit_at_or one.bits other.bits number, bit_at-lt one.bits number, bit_at-lt other.bits number))
 
--- ---- What is put from scopes
+-- ---- What was added from scopes
 
--- One more scope, from which nothing was put.
+-- One more scope, from which nothing was added.
 pub none_put : (sets : List NumberSet) (one : NumberSet) → ((scope number : ℕ) → HasNumberAt sets scope number → ⊥)
     → ((number : ℕ) → HasNumber one number → ⊥) → (scope number : ℕ) → HasNumberAt (sets ++ one ∷ []) scope number → ⊥
 none_put sets one before none scope number put =
     at_push (λ (k : ℕ) (each : NumberSet). HasNumber each number → ⊥) sets one (λ k each at has. before k number (each, at, has)) (none number) scope put.0
     put.1 put.2
 
--- One more set was put from a scope.
+-- One more set was added from a scope.
 pub put_set : (sets : List NumberSet) (scope : ℕ) (made own one : NumberSet) → slice_get sets scope ≡ Some own
     → ((number : ℕ) → HasNumber made number → HasNumber one number ⊎ HasNumber own number)
     → (other number : ℕ) → HasNumberAt (set sets scope made) other number → ((other ≡ scope) × HasNumber one number) ⊎ HasNumberAt sets other number

@@ -1,4 +1,4 @@
--- What an input of a group leads to in one scope, step by step.
+-- What an input of a group reaches in one scope, step by step.
 use Rattle.std.proofs.Common.{◌≡◌, ◌≤◌, ℕ, zero, suc, ◌+◌, Bool, true, false, List, [], ◌∷◌, ◌++◌, map, length}
 use Rattle.std.proofs.Common.{refl, sym, ap, ◌∙◌, subst, append_assoc, append-nil, arith, length-append, Some}
 use Rattle.std.proofs.Common.{Result, Ok, Err, ◌⊎◌, inl, inr}
@@ -31,13 +31,13 @@ pub ok_more : {A E : Type 0} (P Q : A → Type 0) (result : Result A E) → IfOk
 ok_more P Q (Ok value) is more = more value is
 ok_more P Q (Err why) is more = tt
 
--- ---- Up to where was put
+-- ---- Complete and incomplete lists
 
 pub upto_same : (whole : Bool) (put all all' : List Spot) → PutsUpTo whole put all → SameKept all all' → PutsUpTo whole put all'
 upto_same true put all all' puts same = same_then put all all' puts same
 upto_same false put all all' puts same = (puts.0, same_then (put ++ puts.0) all all' puts.1 same)
 
--- What comes behind what was put whole.
+-- What is added after a complete list.
 pub upto_then : (whole : Bool) (old now new one other : List Spot) → SameKept now (old ++ one) → PutsUpTo whole new (now ++ other)
     → PutsUpTo whole new (old ++ (one ++ other))
 upto_then whole old now new one other first puts =
@@ -45,7 +45,7 @@ upto_then whole old now new one other first puts =
     (same_then (now ++ other) ((old ++ one) ++ other) (old ++ (one ++ other)) (same_both now (old ++ one) other other first (λ kept. refl))
     (same_of ((old ++ one) ++ other) (old ++ (one ++ other)) (append_assoc old one other)))
 
--- What comes behind what was not put whole is not put.
+-- After an incomplete list nothing is added.
 pub upto_stop : (put all more : List Spot) → PutsUpTo false put all → PutsUpTo false put (all ++ more)
 upto_stop put all more puts = (
   puts.0 ++ more,
@@ -57,7 +57,7 @@ upto_stop put all more puts = (
 pub upto_none : (old more : List Spot) → PutsUpTo false old (old ++ more)
 upto_none old more = (more, λ kept. refl)
 
--- ---- What is done
+-- ---- Finished inputs
 
 done_by : (nest : Nest) (scopes : List Scope) (base offset : ℕ) (known : Known) (old new : List End) (more : List Spot)
     → SameKept (inputs_at nest scopes base new) (inputs_at nest scopes base old ++ more) → IsDone nest scopes base old offset known
@@ -66,7 +66,7 @@ done_by nest scopes base offset known old new more same done scope depth one at 
     let before = inputs_at nest scopes base old in
     same_there (inputs_at nest scopes base new) (before ++ more) one same (in_front one before more (done scope depth one at of_group within leads))
 
--- What is done stays done where more is put.
+-- What is finished stays finished when more is added.
 pub done_more : (nest : Nest) (scopes : List Scope) (group_scopes : GroupScopes) (kept_sets : KeptSets) (all : List Known) (base group place : ℕ) (old new : Walk)
     (more : Scope → List Spot) → IsScopeAt scopes place group → new.done ≡ old.done → new.put ≡ old.put
     → ((scope : Scope) → slice_get scopes place ≡ Some scope → scope.group ≡ Some group
@@ -124,7 +124,7 @@ component_puts nest scopes base offset line known bind end old new here is leads
     (ap (λ more. before ++ more)
     (component_at nest scopes base known.group depth line scope bind end (ap (λ n. slice_get scopes (base + n)) here ∙ at) of_group is leads)))
 
--- Nothing was put.
+-- Nothing was added.
 pub walks_none : (nest : Nest) (scopes : List Scope) (group_scopes : GroupScopes) (kept_sets : KeptSets) (all : List Known) (base offset : ℕ) (known : Known) (walk : Walk) (binds : List Bind)
     → WalksOn nest scopes group_scopes kept_sets all base offset known walk walk false binds
 walks_none nest scopes group_scopes kept_sets all base offset known walk binds = record {
@@ -225,7 +225,7 @@ walks_stop nest scopes group_scopes kept_sets all base offset known old new ones
   done = λ told. let never : false ≡ true = told in absurd (cc);
 }
 
--- ---- Inputs that are done
+-- ---- Inputs that are finished
 
 pub walks_done : (nest : Nest) (scopes : List Scope) (group_scopes : GroupScopes) (kept_sets : KeptSets) (all : List Known) (base offset : ℕ) (known : Known) (walk : Walk)
     → AreDone nest scopes group_scopes kept_sets all base walk → IsDone nest scopes base walk.ends offset known
@@ -237,7 +237,7 @@ walks_done nest scopes group_scopes kept_sets all base offset known walk are don
   done = λ told. are;
 }
 
--- An input of which all was put is done.
+-- An input for which all was added is finished.
 pub is_done_now : (nest : Nest) (scopes : List Scope) (group_scopes : GroupScopes) (kept_sets : KeptSets) (all : List Known) (base offset : ℕ) (known : Known) (old new : Walk)
     → WalksOn nest scopes group_scopes kept_sets all base offset known old new true (lines_of nest known.group known.port.now) → IsDone nest scopes base new.ends offset known
 is_done_now nest scopes group_scopes kept_sets all base offset known old new walks scope depth one at of_group within is =
@@ -245,13 +245,13 @@ is_done_now nest scopes group_scopes kept_sets all base offset known old new wal
     let leads = ends_of nest depth scope (lines_of nest known.group known.port.now) in
     same_there (inputs_at nest scopes base new.ends) (before ++ leads) one (walks.puts scope depth at of_group within) (in_behind one before leads is)
 
--- A scope of a group is told by its number.
+-- A number of a group belongs to one scope.
 same_offset : (group_scopes : GroupScopes) (group number base one other : ℕ) → IsNumbered group_scopes group number (base + one)
     → IsNumbered group_scopes group number (base + other) → one ≡ other
 same_offset group_scopes group number base one other here there =
     let same : base + one ≡ base + other = same_Some (base + one) (base + other) (sym here ∙ there) in omega (arith, same)
 
--- One more input is done, in one scope.
+-- One more input is finished, in one scope.
 pub done_with : (nest : Nest) (scopes : List Scope) (group_scopes : GroupScopes) (kept_sets : KeptSets) (all : List Known) (base number : ℕ) (old new : Walk) (inlet : Inlet)
     → AreDone nest scopes group_scopes kept_sets all base old
     → ((known : Known) → slice_get all inlet.input ≡ Some known → IsDone nest scopes base old.ends inlet.scope known)
@@ -277,16 +277,16 @@ done_with nest scopes group_scopes kept_sets all base number old new inlet are i
         (subst (λ n. IsNumbered group_scopes known.group n (base + offset)) here.1 at) in
         subst (λ n. IsDone nest scopes base old.ends n known) place (is known there)
 
--- ---- What is put by numbers
+-- ---- What is added by numbers
 
--- What an element gives is among what all give.
+-- What one element gives is among what all give.
 in_flat : (f : End → List Spot) (ends : List End) (end : End) (one : Spot) → IsAmong end ends → IsIn one (f end) → IsIn one (flat_map f ends)
 in_flat f [] end one among is = let never = among.1 in absurd (cc)
 in_flat f (first ∷ ends) end one (zero, at) is =
     in_front one (f first) (flat_map f ends) (subst (λ each. IsIn one (f each)) (sym (same_Some first end at)) is)
 in_flat f (first ∷ ends) end one (suc place, at) is = in_behind one (f first) (flat_map f ends) (in_flat f ends end one (place, at) is)
 
--- What all give is given by one of them.
+-- An element that all give is given by one of them.
 flat_from : (f : End → List Spot) (ends : List End) (one : Spot) → IsIn one (flat_map f ends) → (end : End) × IsAmong end ends × IsIn one (f end)
 flat_from f [] one is = let never : false ≡ true = is in absurd (cc)
 flat_from f (first ∷ ends) one is = by (flat_from f ends one) (in_either one (f first) (flat_map f ends) is)
@@ -296,7 +296,7 @@ flat_from f (first ∷ ends) one is = by (flat_from f ends one) (in_either one (
     by further (inl here) = (first, (zero, refl), here)
     by further (inr later) = let from = further later in (from.0, (suc from.1.0, from.1.1), from.2)
 
--- One more input's kept ones were put, in one scope.
+-- The kept inputs of one more input were added, in one scope.
 pub put_with : (nest : Nest) (scopes : List Scope) (group_scopes : GroupScopes) (kept_sets : KeptSets) (all : List Known) (base offset : ℕ) (known : Known)
     (kept : List End) (set : NumberSet) (old new : Walk) → IsScopeAt scopes (base + offset) known.group → KeepsAll nest scopes known kept
     → HasOnly kept_sets.numbered set kept → IsDone nest scopes base old.ends offset known → new.ends ≡ old.ends → new.done ≡ old.done
@@ -330,7 +330,7 @@ put_with nest scopes group_scopes kept_sets all base offset known kept set old n
         let same : own.0 ≡ end = same_Some own.0 end (sym own.1 ∙ numbered) in
         now end one (subst (λ each. IsAmong each kept) same own.2) (subst (λ n. IsIn one (input_at nest scopes (base + n) end)) here.0 is)
 
--- Where all that is kept of an input was put, all that it leads to was.
+-- Where all that is kept for an input was added, all that it reaches was.
 pub put_whole : (nest : Nest) (scopes : List Scope) (group_scopes : GroupScopes) (kept_sets : KeptSets) (all : List Known) (base offset : ℕ) (known : Known)
     (kept : List End) (set : NumberSet) (walk : Walk) → KeepsAll nest scopes known kept → HasAll kept_sets.numbered set kept
     → ((number : ℕ) → HasNumber set number → HasNumberAt walk.put.sets.items offset number)
@@ -343,7 +343,7 @@ put_whole nest scopes group_scopes kept_sets all base offset known kept set walk
     let number = has from.0 from.1 in
     are.ends offset number.0 from.0 one (put number.0 number.1) number.2 from.2
 
--- The walk after that is the same, but for what is done.
+-- The walk after that is the same, except for its records.
 pub walks_same : (nest : Nest) (scopes : List Scope) (group_scopes : GroupScopes) (kept_sets : KeptSets) (all : List Known) (base offset : ℕ) (known : Known) (old now new : Walk) (binds : List Bind)
     → WalksOn nest scopes group_scopes kept_sets all base offset known old now true binds → new.ends ≡ now.ends → AreDone nest scopes group_scopes kept_sets all base new
     → WalksOn nest scopes group_scopes kept_sets all base offset known old new true binds
@@ -354,7 +354,7 @@ walks_same nest scopes group_scopes kept_sets all base offset known old now new 
   done = λ told. done;
 }
 
--- What holds of the input at the place holds of each that is found there.
+-- A property of the input at the place is one of each input that is found there.
 pub whole_of : (nest : Nest) (scopes : List Scope) (group_scopes : GroupScopes) (kept_sets : KeptSets) (all : List Known) (base : ℕ) (inlet : Inlet) (known : Known) (old new : Walk) (whole : Bool)
     → slice_get all inlet.input ≡ Some known
     → WalksOn nest scopes group_scopes kept_sets all base inlet.scope known old new whole (lines_of nest known.group known.port.now)

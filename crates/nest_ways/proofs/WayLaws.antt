@@ -1,4 +1,4 @@
--- What is known of inputs of groups, line by line.
+-- Known inputs of groups, line by line.
 use Rattle.std.proofs.Common.{◌≡◌, ◌≤◌, ◌<◌, ℕ, zero, suc, ◌+◌, false, List, [], ◌∷◌, ◌++◌, map, length, take, drop, get_or, inl, inr, refl, sym, ap}
 use Rattle.std.proofs.Common.{◌∙◌, subst, append_assoc, append-nil, take-append-drop, arith, Option, Some, None}
 use Rattle.std.specs.Prelude.{slice_get}
@@ -34,7 +34,7 @@ same_of ones others is kept = ap (distinct kept) is
 pub same_then : (ones others more : List Spot) → SameKept ones others → SameKept others more → SameKept ones more
 same_then ones others more first then_ kept = first kept ∙ then_ kept
 
--- The value that is told where there is one.
+-- The value of a result that has one.
 pub some_is : {A : Type 0} (P : Type 0) (value : A) (result : Option A) (found : A) → result ≡ Some found → SomeIff result P value → found ≡ value
 some_is P value result found is told = (subst (λ one. SomeIff one P value) is told).1
 
@@ -45,7 +45,7 @@ only_one (item ∷ []) one long there =
     let same : item ≡ one = cc in ap (λ first. first ∷ []) same
 only_one (item ∷ (other ∷ items)) one long there = absurd (omega (arith, long))
 
--- ---- Inputs that are put once
+-- ---- Inputs that are added once
 
 given : (f : End → List Spot) (ends : List End) (place : ℕ) (end : End) (one : Spot) → slice_get ends place ≡ Some end → IsIn one (f end)
     → IsIn one (flat_map f ends)
@@ -63,7 +63,7 @@ put_once_same f end old new (inr (same, place, there)) =
     same_then (flat_map f new) (flat_map f old) (flat_map f old ++ f end) (same_of (flat_map f new) (flat_map f old) (ap (flat_map f) same))
     (same_covered (flat_map f old) (f end) (λ one is. given f old place end one there is))
 
--- One of several, put onward.
+-- One of several, added with its offset.
 pub onward_next : (f : End → List Spot) (offset : ℕ) (old now new inner : List End) (place : ℕ) (none one : End) → place < length inner
     → PutsOnce one now new → f one ≡ f (onward offset (get_or inner place none))
     → SameKept (flat_map f now) (flat_map f (old ++ map (onward offset) (take place inner)))
@@ -82,7 +82,7 @@ onward_next f offset old now new inner place none one within puts alike so_far =
     ∙ sym (flat_map-append f (old ++ before) (last ∷ []))
     ∙ ap (flat_map f) (append_assoc old before (last ∷ []) ∙ ap (λ ends. old ++ ends) (sym more)))))
 
--- What is left of several is not put.
+-- The rest of several is not added.
 pub onward_stop : (f : End → List Spot) (offset : ℕ) (old now inner : List End) (place : ℕ)
     → SameKept (flat_map f now) (flat_map f (old ++ map (onward offset) (take place inner)))
     → PutsUpTo false (flat_map f now) (flat_map f (old ++ map (onward offset) inner))
@@ -179,7 +179,7 @@ pub ends_inside : (nest : Nest) (scope : Scope) (bind : Bind) (place depth : ℕ
     (map (spot_in (inside scope bind.inner.instance place)) (ins_in nest (inside scope bind.inner.instance place) bind.inner.port))
 ends_inside nest scope bind place depth at = ap (flat_map (all_ends nest depth)) (expand_group nest (spot_in scope bind) place at)
 
--- What the line leads to is what the input inside leads to.
+-- The line reaches what the inner input reaches.
 leads_ends : (nest : Nest) (group : ℕ) (bind : Bind) (inner : Known) (scope : Scope) (depth : ℕ)
     → place_at nest (Some group) bind.inner.instance ≡ Some inner.group → inner.port.now ≡ bind.inner.port → scope.group ≡ Some group
     → ends_of nest (suc depth) scope (bind ∷ [])
@@ -248,7 +248,7 @@ past_first nest scopes all group height step past bind first known (inr (onward,
               same = one.same ∙ ap (ends_of nest one.left one.onward) lines_are ∙ two.same;
             }
 
--- Past an input that leads into a group by its only line.
+-- Past an input whose only line leads into a group.
 pub leads_past : (nest : Nest) (scopes : List Scope) (all : List Known) (group height : ℕ) (step past : Inside) (bind : Bind) (middle : Known)
     → LeadsInside nest scopes all group height step bind → slice_get all step.input ≡ Some middle → IsKnown nest scopes all middle
     → IsPast middle.steps.items step past → LeadsInside nest scopes all group height past bind
@@ -279,7 +279,7 @@ puts_inside nest scopes all firsts group height step bind kept old new alike lea
     (same_both (f old) (f old) there all_of (λ kept. refl)
     (same_then there ends all_of knows (same_of ends all_of (sym inner.same)))))
 
--- ---- More that is known
+-- ---- More known inputs
 
 step_more : (nest : Nest) (scopes : List Scope) (all behind : List Known) (group low high : ℕ) → low ≤ high → (step : Step) (bind : Bind)
     → IsStep nest scopes all group low step bind → IsStep nest scopes (all ++ behind) group high step bind
@@ -340,11 +340,11 @@ line_next (bind ∷ binds) (suc place) =
     let more : suc place + 1 ≡ suc (place + 1) = omega arith in
     ap (λ count. take count (bind ∷ binds)) more ∙ ap (λ rest. bind ∷ rest) (line_next binds place)
 
--- Lines up to one, that one, and those behind it.
+-- Lines up to one, that one, and those after it.
 pub lines_split : (binds : List Bind) (place : ℕ) → binds ≡ (take place binds ++ option_to_list (slice_get binds place)) ++ drop (place + 1) binds
 lines_split binds place = sym (take-append-drop (place + 1) binds) ∙ ap (λ front. front ++ drop (place + 1) binds) (line_next binds place)
 
--- There are as many lines as steps.
+-- There is one line for each step.
 pub lines_end : (nest : Nest) (scopes : List Scope) (all : List Known) (group height : ℕ) (steps : List Step) (binds : List Bind) (place : ℕ)
     → AreSteps nest scopes all group height steps binds → length steps ≤ place → take place binds ≡ binds
 lines_end nest scopes all group height [] [] zero are long = refl

@@ -1,4 +1,4 @@
--- Sets of numbers, and numbers of inputs of components that are kept.
+-- Sets of numbers, and the numbers of inputs of components that are kept.
 use Rattle.std.specs.Prelude.{◌≡◌, ◌↔◌, ◌+◌, ◌*◌, ℕ, List, Option, Some, slice_get}
 use Rattle.std.specs.Int.{bit_at}
 use Rattle.nest_ways.specs.declared.ends.End.{End}
@@ -9,7 +9,7 @@ use Rattle.nest_ways.specs.declared.steps.Known.{Known}
 
 -- ---- Sets
 
--- The number is in the word.
+-- The word has the number, which is below 64.
 abbrev pub IsInWord : SetWord → ℕ → Type 0
 IsInWord word number = bit_at word.bits number ≡ 1
 
@@ -21,7 +21,8 @@ HasAt words place number = (word : SetWord) × (slice_get words place ≡ Some w
 abbrev pub AreEmpty : List SetWord → Type 0
 AreEmpty words = (place number : ℕ) → HasAt words place number → ⊥
 
--- A word of the set has the number: the words stand for 64 numbers each, in turn, from its start on.
+-- A word of the set has the number. Each word is for 64 numbers, in turn, from 64 times the set's
+-- start on.
 pub record HasNumber (set : NumberSet) (number : ℕ) : Type 0 where
   pub place : ℕ
   pub bit : ℕ
@@ -38,7 +39,7 @@ HasNumberAt sets place number = (set : NumberSet) × (slice_get sets place ≡ S
 
 -- ---- Inputs by numbers
 
--- The input stands among others.
+-- The input is in the list.
 abbrev pub IsAmong : End → List End → Type 0
 IsAmong end ends = (place : ℕ) × (slice_get ends place ≡ Some end)
 
@@ -50,7 +51,7 @@ HasAll numbered set ends = (end : End) → IsAmong end ends → (number : ℕ) �
 abbrev pub HasOnly : List End → NumberSet → List End → Type 0
 HasOnly numbered set ends = (number : ℕ) → HasNumber set number → (end : End) × (slice_get numbered number ≡ Some end) × IsAmong end ends
 
--- The set has the numbers of what is kept of the input.
+-- The set has the numbers of the inputs that are kept for the input.
 pub record IsKeptSet (numbered : List End) (all : List Known) (input : ℕ) (set : NumberSet) : Type 0 where
   pub known : Known
   pub there : slice_get all input ≡ Some known
@@ -59,10 +60,10 @@ pub record IsKeptSet (numbered : List End) (all : List Known) (input : ℕ) (set
   pub has_all : HasAll numbered set kept
   pub has_only : HasOnly numbered set kept
 
--- The sets of inputs have the numbers of what is kept of them.
+-- The sets have, for each input that has one, the numbers of the inputs that are kept for it.
 abbrev pub AreKeptSets : List End → List Known → List (Option NumberSet) → Type 0
 AreKeptSets numbered all sets = (input : ℕ) (set : NumberSet) → slice_get sets input ≡ Some (Some set) → IsKeptSet numbered all input set
 
--- What is kept of the inputs that are known, by numbers.
+-- The sets of a table have the numbers of the inputs that are kept for the known inputs.
 abbrev pub KeepsByNumbers : KeptSets → List Known → Type 0
 KeepsByNumbers kept all = AreKeptSets kept.numbered all kept.sets.items

@@ -1,4 +1,4 @@
-//! In which scopes of its group an input is done: a set of them for each input.
+//! In which scopes of its group an input is finished: a set of scopes for each input.
 ghost use Rattle.std.specs.Prelude.{◌≡◌, ◌⊎◌, ℕ, Some, IfOk, IsTrue};
 ghost use Rattle.nest_ways.specs.Sets.{AreEmpty, HasAt};
 ghost use Rattle.nest_ways.specs.Walking.{IsNumbered};
@@ -8,18 +8,19 @@ use fixed_words::NoMemory;
 use nest_names::{Scope, at};
 use std::alloc::Global;
 
-/// The most scopes of a group whose numbers are noted. No group has more: each of its scopes has a component of its own, and a system has no
-/// more of them. In one of a higher number an input would never be done: it would be followed there again.
+/// The most scopes of a group whose numbers are recorded. No group has more, since each of its scopes has a component
+/// of its own and a system has at most this many. In a scope with a higher number an input would never be finished, and
+/// would be visited again.
 const MOST_SCOPES: u32 = WORD_BITS;
 
-/// In which scopes inputs of groups are done: for each input a set of scopes of its group.
+/// In which scopes inputs of groups are finished: for each input a set of scopes of its group.
 #[derive(Drop)]
 pub struct DoneInputs {
     sets: Vec<SetWord>,
 }
 
 impl DoneInputs {
-    /// So many inputs, none of which is done in a scope.
+    /// Returns the sets for `count` inputs, none of which is finished in any scope.
     pub(crate) fn new(alloc: Global, count: usize) -> Result<DoneInputs, NoMemory>
         ensures { IfOk result (λ made. AreEmpty made.sets.items) }
     {
@@ -30,7 +31,7 @@ impl DoneInputs {
         Ok(DoneInputs { sets })
     }
 
-    /// Whether an input is done in the scope of its group with this number.
+    /// Whether an input is finished in the scope of its group with this number.
     pub(crate) fn has(&self, input: usize, number: u32) -> bool
         ensures { IsTrue result → HasAt self.now.sets.items input number }
     {
@@ -40,7 +41,7 @@ impl DoneInputs {
         }
     }
 
-    /// Puts the scope of its group with this number to those in which an input is done.
+    /// Records that an input is finished in the scope of its group with this number.
     pub(crate) fn put(&mut self, input: usize, number: u32)
         ensures { (other one : ℕ) → HasAt self.new.sets.items other one
             → ((other ≡ input) × (one ≡ number)) ⊎ HasAt self.old.sets.items other one }
@@ -51,16 +52,16 @@ impl DoneInputs {
     }
 }
 
-/// The scopes of each group, by numbers. What rests on it is only that a number of a group is that of one place.
+/// The scopes of each group, by numbers. The proof needs only that a number of a group is that of one place.
 #[derive(Drop)]
 pub struct GroupScopes {
     /// For each group, the places of its scopes in the list of all scopes.
     places: Vec<Vec<usize>>,
-    /// For each scope, which one of its group it is, which is compared with the places.
+    /// For each scope its number in its group, which is compared with the places.
     numbers: Vec<u32>,
 }
 
-/// Notes where the next scope of a group stands, and tells its number.
+/// Records the place of the next scope of a group, and returns its number.
 fn note_place(
     places: &mut [Vec<usize>],
     group: Option<usize>,
@@ -78,7 +79,7 @@ fn note_place(
 }
 
 impl GroupScopes {
-    /// The numbers of scopes, of so many groups.
+    /// Returns the numbers of scopes, for this many groups.
     pub(crate) fn new(
         alloc: Global,
         scopes: &[Scope],

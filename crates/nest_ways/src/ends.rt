@@ -1,4 +1,4 @@
-//! Inputs of components by numbers, each put into a list once.
+//! Inputs of components by numbers, each added to a list once.
 ghost use Rattle.std.specs.Prelude.{◌≡◌, ◌++◌, List, Some, IfOk, IsTrue, OnOk, map, slice_get};
 ghost use Rattle.std.specs.List.{flat_map};
 ghost use Rattle.std.specs.Option.{option_map, unwrap_or};
@@ -11,16 +11,16 @@ use fixed_words::{List, NoMemory};
 use nest_names::{at, same_port};
 use nest_text::Bind;
 
-/// An input of a component, as it is reached from a scope.
+/// An input of a component that is reached from a scope, by numbers.
 #[derive(Clone, Copy, Debug, PartialEq, Eq)]
 pub struct End {
-    /// How many places further on its own scope stands in the list of all scopes.
+    /// How many places after that scope its own scope is, in the list of all scopes.
     pub scope: u32,
-    /// The place of an `in` line of that scope's group that leads to it.
+    /// The place of an `in` line of its own scope's group that has it as its inner port.
     pub line: u32,
 }
 
-/// Whether an input is at a place of others.
+/// Whether an input is at a place of a list.
 #[inline(always)]
 pub(crate) fn is_at(ends: &[End], place: usize, end: End) -> bool
     ensures { IsTrue result → slice_get ends.now place ≡ Some end }
@@ -31,7 +31,8 @@ pub(crate) fn is_at(ends: &[End], place: usize, end: End) -> bool
     }
 }
 
-/// Puts an input behind others, where it isn't among them: it is looked for at the place that the guide tells.
+/// Adds an input at the end of a list, if it isn't there already. It is searched only at the place that the guide
+/// gives.
 #[inline(always)]
 fn put_once(guide: &mut Guide<'_>, end: End, ends: &mut List<End>) -> Result<(), NoMemory>
     ensures { OnOk result (PutsOnce end ends.old ends.new) }
@@ -44,7 +45,7 @@ fn put_once(guide: &mut Guide<'_>, end: End, ends: &mut List<End>) -> Result<(),
     Ok(())
 }
 
-/// Puts an input behind others as [`put_once`] does, where there are no more than so many. Tells whether it was put.
+/// Adds an input as [`put_once`] does, if the list has at most `most` inputs. Returns whether it did.
 pub(crate) fn put_within(
     guide: &mut Guide<'_>,
     most: usize,
@@ -60,7 +61,8 @@ pub(crate) fn put_within(
     Ok(true)
 }
 
-/// The first scope that is the same, by the table of the group from whose scope both are told.
+/// The offset of the first scope that is equal to the one at this offset, by the table of the group from whose scope
+/// both are counted.
 #[inline(always)]
 pub(crate) fn first_same(firsts: &[u32], offset: u32) -> u32
     ensures { result ≡ unwrap_or (slice_get firsts.now offset) offset }
@@ -71,7 +73,7 @@ pub(crate) fn first_same(firsts: &[u32], offset: u32) -> u32
     }
 }
 
-/// Whether inputs are among others, each as it is reached from a scope that stands so many places before.
+/// Whether all these inputs are in a list, each counted from a scope that is `offset` places earlier.
 fn are_among(guide: &Guide<'_>, firsts: &[u32], offset: u32, inner: &[End], ends: &[End]) -> bool
     ensures { IsTrue result → (input : End → List Spots) → ReadsAlike firsts.now input
         → SameKept (flat_map input ends.now) (flat_map input (ends.now ++ map (onward offset) inner.now)) }
@@ -90,8 +92,9 @@ fn are_among(guide: &Guide<'_>, firsts: &[u32], offset: u32, inner: &[End], ends
     true
 }
 
-/// Puts inputs behind others, each as it is reached from a scope that stands so many places before, until there are more than so many.
-/// Tells whether all were put. Most often all are there: this is told first, as it takes half the time.
+/// Adds inputs at the end of a list, each counted from a scope that is `offset` places earlier, until there are more
+/// than `most`. Returns whether all were added. Most often all are there already; this is tested first, since it takes
+/// half the time.
 pub(crate) fn put_onward(
     guide: &mut Guide<'_>,
     firsts: &[u32],
@@ -123,7 +126,7 @@ pub(crate) fn put_onward(
     Ok(true)
 }
 
-/// A line that leads to the same inner port as this: the first one, where the guide knows it.
+/// The first line with the same inner port as this line, if the guide knows it.
 pub(crate) fn same_line<'n>(
     guide: &Guide<'n>,
     group: usize,

@@ -1,4 +1,5 @@
-//! What is looked up while inputs of groups are followed. Nothing rests on it: whoever asks it tests what it says.
+//! Look-ups that are needed while inputs of groups are visited. No proof depends on them: each caller tests the
+//! results.
 use crate::ends::End;
 use fixed_words::{List, NoMemory};
 use nest_names::{NestNames, Places, Scope, copied_scope, inside, note, noted};
@@ -10,37 +11,37 @@ use unit_tree::PortName;
 /// Places of lines by their inner ports.
 type Lines<'n> = BTreeMap<(&'n [u8], &'n [u8]), usize>;
 
-/// The most scopes that can be the same: each has a component of its own.
+/// The most scopes that can be equal: each has a component of its own.
 const MOST_TWINS: usize = 64;
 
-/// What is looked up of a group.
+/// The look-ups for a group.
 #[derive(Drop)]
 struct GroupGuide<'n> {
     /// The place of its first scope in the list of all scopes.
     first: Option<usize>,
-    /// How many scopes that scope has, with those inside it.
+    /// How many scopes there are in that scope, with itself.
     size: usize,
-    /// By the names of its instances, how many places further on the scopes inside them are.
+    /// For the name of each instance, how many places later the scope inside it is.
     offsets: Places<'n>,
     /// The first `in` line for each inner port.
     lines: Lines<'n>,
-    /// By its inputs, the places of what is known of them.
+    /// The places of its known inputs, by their names.
     known: Places<'n>,
-    /// Its inputs of which nothing is known.
+    /// Its inputs that were tried and are not known.
     unknown: Places<'n>,
 }
 
-/// What is looked up while inputs are followed.
+/// Look-ups that are needed while inputs are visited.
 #[derive(Drop)]
 pub struct Guide<'n> {
     groups: Vec<GroupGuide<'n>>,
-    /// For each scope how many `in` lines those before it have.
+    /// For each scope how many `in` lines the scopes before it have.
     starts: Vec<u32>,
-    /// For each scope the last one before it that is the same.
+    /// For each scope the last one before it that is equal.
     twins: Vec<Option<usize>>,
-    /// For each `in` line of each scope, where the list that is being made may have the input that it leads to.
+    /// For each `in` line of each scope, the place at which the list that is being made may have its inner input.
     places: Vec<u32>,
-    /// The scope from which the list that is being made is told.
+    /// The place of the scope from which the list that is being made is counted.
     base: usize,
 }
 
@@ -61,7 +62,7 @@ fn put_number(numbers: &mut [u32], place: usize, number: usize) {
     }
 }
 
-/// So many numbers, each 0.
+/// Returns `count` numbers, each 0.
 fn zeros(alloc: Global, count: usize) -> Result<Vec<u32>, NoMemory> {
     let mut numbers = Vec::with_capacity(alloc, count)?;
     for _ in 0..count {
@@ -119,7 +120,7 @@ impl<'n> Guide<'n> {
         })
     }
 
-    /// Notes the next of all scopes.
+    /// Records the next of all scopes.
     fn note_scope(&mut self, group: Option<usize>, scope: usize) {
         if let Some(group) = group {
             if let Some(one) = self.groups.get_mut(group) {
@@ -130,7 +131,7 @@ impl<'n> Guide<'n> {
         }
     }
 
-    /// Notes where the `in` lines of each scope begin, and makes room for a number for each.
+    /// Records where the `in` lines of each scope begin, and makes room for one number for each line.
     fn note_lines(
         &mut self,
         alloc: Global,
@@ -146,7 +147,7 @@ impl<'n> Guide<'n> {
         Ok(())
     }
 
-    /// Notes how many scopes a scope of a group has, with those inside it.
+    /// Records how many scopes there are in a scope of a group, with itself.
     fn note_size(&mut self, group: Option<usize>, size: usize) {
         if let Some(group) = group {
             if let Some(one) = self.groups.get_mut(group) {
@@ -155,7 +156,7 @@ impl<'n> Guide<'n> {
         }
     }
 
-    /// Notes how many places further on the scope inside an instance of a group is.
+    /// Records how many places later the scope inside an instance of a group is.
     fn note_offset(
         &mut self,
         group: Option<usize>,
@@ -170,7 +171,7 @@ impl<'n> Guide<'n> {
         Ok(())
     }
 
-    /// Notes for each scope the last one before it that is the same.
+    /// Records for each scope the last one before it that is equal.
     fn note_twins(&mut self, alloc: Global, scopes: &[Scope]) -> Result<(), NoMemory> {
         let mut last = BTreeMap::new(alloc);
         for (place, scope) in scopes.iter().enumerate() {
@@ -181,7 +182,8 @@ impl<'n> Guide<'n> {
         Ok(())
     }
 
-    /// The last scope before one of a group's first scope that is the same, where it is inside that scope too; each by its offset.
+    /// Of a scope inside a group's first scope, the last scope before it that is equal and also inside; both by their
+    /// offsets.
     fn twin_before(&self, group: usize, offset: usize) -> Option<usize> {
         let first = self.groups.get(group)?.first?;
         let place = first.checked_add(offset)?;
@@ -189,7 +191,7 @@ impl<'n> Guide<'n> {
         twin.checked_sub(first)
     }
 
-    /// The first scope that is the same as one of a group's first scope, where it is inside that scope too; each by its offset.
+    /// Of a scope inside a group's first scope, the first scope that is equal and also inside; both by their offsets.
     pub(crate) fn first_twin(&self, group: usize, offset: usize) -> usize {
         let mut first = offset;
         for _ in 0..MOST_TWINS {
@@ -201,7 +203,7 @@ impl<'n> Guide<'n> {
         first
     }
 
-    /// How many scopes a scope of a group has, with those inside it.
+    /// How many scopes there are in a scope of a group, with itself.
     pub(crate) fn size(&self, group: usize) -> usize {
         match self.groups.get(group) {
             Some(one) => one.size,
@@ -209,7 +211,7 @@ impl<'n> Guide<'n> {
         }
     }
 
-    /// Notes where an input of a group is among those that are known.
+    /// Records the place of an input of a group among those that are known.
     pub(crate) fn note_known(
         &mut self,
         group: usize,
@@ -222,7 +224,7 @@ impl<'n> Guide<'n> {
         Ok(())
     }
 
-    /// Notes that nothing is known of an input of a group.
+    /// Records that an input of a group was tried and is not known.
     pub(crate) fn note_unknown(&mut self, group: usize, port: &'n [u8]) -> Result<(), NoMemory> {
         if let Some(one) = self.groups.get_mut(group) {
             note(&mut one.unknown, port, 0)?;
@@ -230,12 +232,12 @@ impl<'n> Guide<'n> {
         Ok(())
     }
 
-    /// Where an input of a group is among those that are known.
+    /// The place of an input of a group among those that are known.
     pub(crate) fn known(&self, group: usize, port: &[u8]) -> Option<usize> {
         noted(&self.groups.get(group)?.known, port)
     }
 
-    /// Whether nothing is known of an input of a group.
+    /// Whether an input of a group was tried and is not known.
     fn is_unknown(&self, group: usize, port: &[u8]) -> bool {
         match self.groups.get(group) {
             Some(one) => noted(&one.unknown, port).is_some(),
@@ -243,12 +245,12 @@ impl<'n> Guide<'n> {
         }
     }
 
-    /// Whether an input of a group was worked out, or tried in vain.
+    /// Whether an input of a group is known, or was tried in vain.
     pub(crate) fn is_settled(&self, group: usize, port: &[u8]) -> bool {
         self.known(group, port).is_some() || self.is_unknown(group, port)
     }
 
-    /// How many places further on the scope inside an instance of a group is.
+    /// How many places later the scope inside an instance of a group is.
     pub(crate) fn offset(&self, group: usize, name: &[u8]) -> Option<u32> {
         u32::try_from(noted(&self.groups.get(group)?.offsets, name)?).ok()
     }
@@ -259,12 +261,12 @@ impl<'n> Guide<'n> {
         self.groups.get(group)?.lines.get(&inner).copied()
     }
 
-    /// Begins a list that is told from a scope.
+    /// Begins a list that is counted from a scope.
     pub(crate) fn begin(&mut self, base: usize) {
         self.base = base;
     }
 
-    /// Begins a list that is told from the first scope of a group.
+    /// Begins a list that is counted from the first scope of a group.
     pub(crate) fn begin_group(&mut self, group: usize) {
         self.base = match self.groups.get(group) {
             Some(one) => one.first.unwrap_or(0),
@@ -278,19 +280,19 @@ impl<'n> Guide<'n> {
         number_at(self.starts.as_slice(), scope).wrapping_add(end.line as usize)
     }
 
-    /// Where the list that is being made may have an input.
+    /// The place at which the list that is being made may have an input.
     pub(crate) fn place_of(&self, end: End) -> usize {
         number_at(self.places.as_slice(), self.number(end))
     }
 
-    /// Notes where the list that is being made has an input.
+    /// Records the place at which the list that is being made has an input.
     pub(crate) fn note_place(&mut self, end: End, place: usize) {
         let number = self.number(end);
         put_number(self.places.as_mut_slice(), number, place);
     }
 }
 
-/// Puts a scope and all inside it behind others, an instance before those inside it.
+/// Appends a scope and all scopes inside it, in the order of instances, each before those inside it.
 fn put_scopes<'n>(
     alloc: Global,
     names: &NestNames<'n>,
@@ -321,7 +323,7 @@ fn put_scopes<'n>(
     Ok(())
 }
 
-/// All scopes of a nest, up to so many levels, with a guide to them.
+/// All scopes of a nest, nested at most `levels` levels deep, with a guide to them.
 pub(crate) fn guided_scopes<'n>(
     alloc: Global,
     names: &NestNames<'n>,

@@ -1,4 +1,5 @@
-//! The inputs of components that an input of a group leads to, where they are few: the same in each scope of its group.
+//! The inputs of components that an input of a group reaches, kept where they are few: they are the same in each scope
+//! of its group.
 ghost use Rattle.std.specs.Prelude.{◌≡◌, ◌∷◌, [], ℕ, List, Some, IfOk, IsTrue};
 ghost use Rattle.nest_text.specs.declared.nest.Bind.{Bind};
 ghost use Rattle.nest_text.specs.declared.nest.Nest.{Nest};
@@ -12,11 +13,13 @@ use fixed_words::{List, NoMemory};
 use nest_names::at;
 use std::alloc::Global;
 
-/// The most inputs that are kept of one input. Few walks come to one that leads to more, since a system has no more than 2,048 connections.
-/// Some 40,000 inputs of groups may have two lines or more, and a list and a set of numbers each, so that longer ones would take much memory.
+/// The most inputs that are kept for one input. Few walks meet one that reaches more, since a system has at most 2,048
+/// connections. Some 40,000 inputs of groups may have two lines or more, each with a list and a set of numbers. So
+/// longer lists would take much memory.
 const MOST_KEPT: usize = 128;
 
-/// Puts the inputs of components that a step of an input of a group leads to, where they are known to be few.
+/// Adds the inputs of components that a step of an input of a group reaches, where they are known to be few. Returns
+/// whether it did.
 fn put_step(
     scopes: &AllScopes<'_>,
     known: &[Known<'_>],
@@ -50,7 +53,8 @@ fn put_step(
     }
 }
 
-/// The inputs of components that the steps of an input of a group lead to, where they are few. One step into a group is gone along instead.
+/// The inputs of components that the steps of an input of a group reach, where they are few. None for an input with one
+/// step into a group: a walk takes this step instead.
 pub(crate) fn kept_ends(
     alloc: Global,
     scopes: &AllScopes<'_>,

@@ -1,4 +1,4 @@
-//! What is known of the inputs of groups that connections lead to: each is worked out once, for all scopes of its group.
+//! The known inputs of groups that connections lead to: each is computed once, for all scopes of its group.
 ghost use Rattle.std.specs.Prelude.{IfOk, OnOk};
 ghost use Rattle.nest_ways.specs.Reaching.{AreKnown};
 ghost use Rattle.nest_ways.specs.Walking.{AreWays};
@@ -15,11 +15,12 @@ use nest_names::{LEVELS, NestNames, at, top};
 use std::alloc::Global;
 use unit_tree::Wire;
 
-/// The most connections whose targets are worked out beforehand, in the order in which they are asked for. Where all ports of groups are
-/// there, the flat system has one or more for each, so that no more are asked for: at the last of these it is too large.
+/// The most connections whose targets are computed beforehand, in the order in which they are used. Where all ports of
+/// groups exist, the flat system has at least one connection for each of them. So no more are used: at the last of
+/// these the system is too large.
 const MOST_TARGETS: usize = MOST_CONNECTIONS + 1;
 
-/// Works out an input of a group, after those that are known.
+/// Computes an input of a group, where the inputs that it leads to were computed before.
 fn add_known<'n>(
     alloc: Global,
     names: &NestNames<'n>,
@@ -50,7 +51,7 @@ fn add_known<'n>(
     Ok(())
 }
 
-/// Works out what a line of a group leads to.
+/// Computes the inputs that a line of a group leads to.
 #[cycle(know)]
 fn know_line<'n>(
     alloc: Global,
@@ -83,7 +84,7 @@ fn know_line<'n>(
     )
 }
 
-/// Works out what an input of a group leads to, after what the inputs inside lead to.
+/// Computes an input of a group, after the inner inputs that it leads to.
 #[cycle(know)]
 fn know<'n>(
     alloc: Global,
@@ -107,7 +108,7 @@ fn know<'n>(
     add_known(alloc, names, scopes, known, guide, group, port)
 }
 
-/// Works out what the target of a connection leads to.
+/// Computes the inputs that the target of a connection leads to.
 fn know_target<'n>(
     alloc: Global,
     names: &NestNames<'n>,
@@ -135,7 +136,8 @@ fn know_target<'n>(
     )
 }
 
-/// Works out what the targets of the connections of a scope lead to, of so many at most, and tells how many more may be.
+/// Computes the targets of the connections of a scope, at most `most` of them, and returns how many more may be
+/// computed.
 fn know_targets<'n>(
     alloc: Global,
     names: &NestNames<'n>,
@@ -159,7 +161,7 @@ fn know_targets<'n>(
     Ok(more)
 }
 
-/// Works out where the targets of all connections lead.
+/// Computes the targets of all connections.
 fn know_all<'n>(
     alloc: Global,
     names: &NestNames<'n>,
@@ -177,7 +179,7 @@ fn know_all<'n>(
     Ok(())
 }
 
-/// What is known of the inputs to which the connections of a nest lead.
+/// The ways of a nest: the known inputs of groups that its connections lead to.
 #[derive(Drop)]
 pub struct Ways<'n> {
     pub scopes: AllScopes<'n>,
@@ -187,7 +189,7 @@ pub struct Ways<'n> {
 }
 
 impl<'n> Ways<'n> {
-    /// The ways of a nest, and a guide to them.
+    /// Returns the ways of a nest, and a guide to them. The only error is that there is no memory.
     pub fn new(alloc: Global, names: &NestNames<'n>) -> Result<(Ways<'n>, Guide<'n>), NoMemory>
         ensures { IfOk result (λ made. AreWays names.now made.0) }
     {

@@ -1,17 +1,22 @@
-//! Where the targets of the connections of a nest lead.
+//! Which inputs of components the targets of a nest's connections reach.
 //!
-//! The layer above makes the [`Ways`] of a nest once, and asks for each connection which inputs of components it [`reached`], up to the
-//! room that is left for connections. However many ways there are to an input between, each connection goes on from it once in each place.
+//! The layer above makes the [`Ways`] of a nest once. For each connection it calls [`reached`], which returns the
+//! inputs of components that the connection reaches, up to the number of connections that are still allowed. However
+//! many paths lead to an input between, a walk goes on from it once in each scope.
 //!
-//! Each input of a group that a connection leads to is looked up once: where its lines lead is kept by numbers (`steps.rt`), the same in
-//! each scope of the group, told by how many scopes further on. A chain of inputs that have one line each is one step, to its end. Where an
-//! input leads to few inputs of components, those are kept too (`kept.rt`), and told by a set of numbers (`numbers.rt`, `sets.rt`). A walk
-//! (`walk.rt`) puts what is kept, or goes along steps. It notes in which scopes an input is done (`done.rt`), so that it is followed once in
-//! each, and the numbers of what was put from each scope, so that nothing is put of an input that leads to such alone. Few connections can
-//! lead to more than is kept, since a system has a limited number of them.
+//! - Each input of a group that a connection leads to is computed once. Its steps are kept by numbers (`steps.rt`).
+//!   They are the same in each scope of the group: a scope is given by how many places later it is in the list of all
+//!   scopes.
+//! - A chain of inputs that have one line each is one step, to its end.
+//! - Where an input reaches few inputs of components, these are kept too (`kept.rt`), also as a set of numbers
+//!   (`numbers.rt`, `sets.rt`).
+//! - A walk (`walk.rt`) adds what is kept, or takes the steps. It records in which scopes an input is finished
+//!   (`done.rt`), so that it is visited once in each. It also records the numbers of what was added from each scope, so
+//!   that an input which reaches only such inputs is not visited.
+//! - Few connections can reach more than is kept, since a system has a limited number of them.
 //!
-//! Definitions: `specs/Reaching.antt` (inputs by numbers, and what is known of them), `specs/Sets.antt` (sets of numbers, and what is kept by
-//! them) and `specs/Walking.antt` (what a walk has put and what it came to).
+//! Definitions: `specs/Reaching.antt` (inputs by numbers, and known inputs), `specs/Sets.antt` (sets of numbers, and
+//! what is kept by them) and `specs/Walking.antt` (what a walk has added, and its result).
 #![tactic(auto)]
 
 mod done;

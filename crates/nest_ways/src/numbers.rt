@@ -1,8 +1,9 @@
-//! The inputs of components that are kept, by numbers: so that it is told by words whether all that is kept of an input was put.
+//! The kept inputs of components by numbers, so that a few words show whether all that is kept for an input was added.
 //!
-//! Each input of a component that is kept of inputs of a group to which walks come has a number, the same for all of them, and the numbers of
-//! one group stand together. What rests on it is only that one input stands at a number, as it is reached from a scope of the group: an input without a set,
-//! or with one that is never found to be put, is put again from each scope, which takes long and changes nothing.
+//! Each input of a component that is kept for an input of a group which walks visit has a number, the same for all of
+//! these. The numbers of one group follow each other. The proof needs only that each number has one input, counted from
+//! a scope of the group. An input without a set, or with a set that is never found to be complete, is added again from
+//! each scope. This takes long and changes nothing.
 ghost use Rattle.std.specs.Prelude.{◌≡◌, ◌⊎◌, ◌++◌, ℕ, List, Some, IfOk, IsTrue, OnOk, slice_get};
 ghost use Rattle.std.specs.Option.{option_map};
 ghost use Rattle.nest_ways.specs.Sets.{AreKeptSets, KeepsByNumbers, HasAll, HasNumber, HasOnly, HasNumberAt};
@@ -18,21 +19,24 @@ use model_rules::MOST_CONNECTIONS;
 use nest_names::at;
 use std::alloc::Global;
 
-/// The most inputs of components that get numbers for one group. Connections lead to 2,048 at most, where they don't lead to too many. One of
-/// them may have eight numbers, where names of instances join to the same: each for another scope of the group from which it is reached, and
-/// for another component in each of these, of which there are 64 at most. Beyond, what is kept has no set, and is put from each scope anew.
+/// The most inputs of components that get numbers for one group. Connections lead to at most 2,048 inputs, unless there
+/// are too many. An input may have eight numbers, where names of instances join to the same name: each for another
+/// scope of the group from which it is reached, and for another component in each of these, of which there are at most
+/// 64. Beyond that, what is kept has no set, and is added again from each scope.
 pub(crate) const MOST_NUMBERS: usize = 8 * MOST_CONNECTIONS;
 
-/// What is kept of inputs of groups, by numbers.
+/// What is kept for inputs of groups, by numbers.
 #[derive(Drop)]
 pub struct KeptSets {
-    /// The inputs of components, each at its number, as it is reached from a scope.
+    /// The inputs of components, each at its number, counted from a scope.
     numbered: List<End>,
-    /// For each input of a group the numbers of what is kept of it, where something is, walks come to it and there were numbers for it.
+    /// For each input of a group the numbers of what is kept for it. None where nothing is kept, no walk visits it, or
+    /// there were no numbers left.
     sets: Vec<Option<NumberSet>>,
 }
 
-/// The number of an input of a component, the next one where it has none yet and there are enough. Those of the group begin with the first.
+/// The number of an input of a component. Where it has none yet, it gets the next one, if there are any left. The
+/// numbers of the group begin with `first`.
 fn number_end(
     guide: &mut Guide<'_>,
     first: usize,
@@ -55,7 +59,7 @@ fn number_end(
     Ok(Some(next))
 }
 
-/// The numbers of what is kept, where there are enough.
+/// The numbers of what is kept, if there are enough.
 fn numbers_of(
     alloc: Global,
     guide: &mut Guide<'_>,
@@ -78,7 +82,7 @@ fn numbers_of(
     set.trimmed()
 }
 
-/// Puts a set at a place, where there is one.
+/// Sets the set at a place, if there is such a place.
 fn set_at(sets: &mut Vec<Option<NumberSet>>, place: usize, set: Option<NumberSet>)
     ensures { (other : ℕ) (one : NumberSets) → slice_get sets.new.items other ≡ Some (Some one)
         → ((other ≡ place) × (set ≡ Some one)) ⊎ (slice_get sets.old.items other ≡ Some (Some one)) }
@@ -88,7 +92,7 @@ fn set_at(sets: &mut Vec<Option<NumberSet>>, place: usize, set: Option<NumberSet
     }
 }
 
-/// Numbers what is kept of inputs of one group.
+/// Numbers what is kept for inputs of one group.
 fn number_inputs(
     alloc: Global,
     known: &[Known<'_>],
@@ -116,8 +120,8 @@ fn number_inputs(
     Ok(())
 }
 
-/// Notes the inputs that a walk comes to from an input, where nothing is kept of this, so that walks go along its steps, and they aren't one
-/// step, which is led past.
+/// Records the inputs that a walk visits from an input. They are the ends of its steps if nothing is kept for it. If it
+/// has only one step into a group, no walk visits it, since such steps are joined.
 fn note_walked(one: &Known<'_>, walked: &mut [bool]) {
     let steps = one.steps.as_slice();
     if one.ends.is_some() || only_inside(steps).is_some() {
@@ -132,7 +136,7 @@ fn note_walked(one: &Known<'_>, walked: &mut [bool]) {
     }
 }
 
-/// Which of the inputs that are known walks come to from others.
+/// For each known input, whether walks visit it from others.
 fn walked_inputs(alloc: Global, known: &[Known<'_>]) -> Result<Vec<bool>, NoMemory> {
     let mut walked = Vec::with_capacity(alloc, known.len())?;
     for _ in 0..known.len() {
@@ -144,7 +148,7 @@ fn walked_inputs(alloc: Global, known: &[Known<'_>]) -> Result<Vec<bool>, NoMemo
     Ok(walked)
 }
 
-/// For each group those of its inputs to which walks come.
+/// For each group those of its inputs that walks visit.
 fn inputs_of_groups(
     alloc: Global,
     known: &[Known<'_>],
@@ -165,7 +169,7 @@ fn inputs_of_groups(
     Ok(lists)
 }
 
-/// So many inputs, none of which has a set.
+/// Returns the list for `count` inputs, none of which has a set.
 fn no_sets(alloc: Global, count: usize) -> Result<Vec<Option<NumberSet>>, NoMemory>
     ensures { IfOk result (λ made. (place : ℕ) (set : NumberSets) → slice_get made.items place ≡ Some (Some set) → ⊥) }
 {
@@ -177,7 +181,7 @@ fn no_sets(alloc: Global, count: usize) -> Result<Vec<Option<NumberSet>>, NoMemo
 }
 
 impl KeptSets {
-    /// The numbers of what is kept of inputs to which walks come, group by group.
+    /// Returns the numbers of what is kept for inputs that walks visit, group by group.
     pub(crate) fn new(
         alloc: Global,
         known: &[Known<'_>],
@@ -203,7 +207,7 @@ impl KeptSets {
         Ok(KeptSets { numbered, sets })
     }
 
-    /// The numbers of what is kept of an input.
+    /// The numbers of what is kept for an input.
     pub(crate) fn set(&self, input: usize) -> Option<&NumberSet>
         ensures { (set : NumberSets) → option_map (λ found. found.now) result ≡ Some set → slice_get self.now.sets.items input ≡ Some (Some set) }
     {
@@ -211,14 +215,14 @@ impl KeptSets {
     }
 }
 
-/// For each scope, told by how many places further on it stands, numbers of inputs that were put from there.
+/// For each scope, by how many places later it is, the numbers of inputs that were added from there.
 #[derive(Drop)]
 pub struct PutSets {
     sets: Vec<NumberSet>,
 }
 
 impl PutSets {
-    /// So many scopes, from none of which inputs were put.
+    /// Returns the sets of `count` scopes, all empty.
     pub(crate) fn new(alloc: Global, count: usize) -> Result<PutSets, NoMemory>
         ensures { IfOk result (λ made. (scope number : ℕ) → HasNumberAt made.sets.items scope number → ⊥) }
     {
@@ -229,7 +233,7 @@ impl PutSets {
         Ok(PutSets { sets })
     }
 
-    /// Whether all numbers of a set were put from a scope.
+    /// Whether all numbers of a set were added from a scope.
     pub(crate) fn has(&self, scope: usize, set: &NumberSet) -> bool
         ensures { IsTrue result → (number : ℕ) → HasNumber set.now number → HasNumberAt self.now.sets.items scope number }
     {
@@ -239,7 +243,7 @@ impl PutSets {
         }
     }
 
-    /// Puts the numbers of a set to those of a scope.
+    /// Adds the numbers of a set to those of a scope.
     pub(crate) fn put(&mut self, scope: usize, set: &NumberSet) -> Result<(), NoMemory>
         ensures { OnOk result ((other number : ℕ) → HasNumberAt self.new.sets.items other number
             → ((other ≡ scope) × HasNumber set.now number) ⊎ HasNumberAt self.old.sets.items other number) }

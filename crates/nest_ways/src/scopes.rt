@@ -1,7 +1,8 @@
-//! All scopes of a nest, and which stands where.
+//! All scopes of a nest, and their places.
 //!
-//! Scopes of one group have the same scopes inside them, so what is inside one is told by how many places further on it stands: that is
-//! tried once for each instance. Two of these may be the same scope, as the names of instances around them may join to one prefix.
+//! Scopes of one group have the same scopes inside them. So a scope inside is given by its offset: how many places
+//! later it is. This is tested once for each instance. Two scopes may be equal, since the names of instances around
+//! them may join to the same prefix.
 ghost use Rattle.std.specs.Prelude.{◌≡◌, ◌++◌, ◌+◌, ℕ, List, Some, IfOk, IsTrue, map, slice_get};
 ghost use Rattle.std.specs.Option.{option_map};
 ghost use Rattle.nest_names.specs.Flattening.{inside};
@@ -19,19 +20,19 @@ use unit_tree::{Instance, Name};
 #[derive(Drop)]
 pub struct AllScopes<'n> {
     scopes: List<Scope>,
-    /// For each group, by how many places further on a scope is: by how many the first one is that is the same.
+    /// For each group and each offset, the offset of the first scope that is equal.
     firsts: Vec<Vec<u32>>,
-    /// For each group, where the scopes inside its instances stand.
+    /// For each group, the offsets of the scopes inside its instances.
     inner: Vec<Vec<Inner<'n>>>,
 }
 
-/// Where the scope inside an instance of a group stands.
+/// The offset of the scope inside an instance of a group.
 #[derive(Clone, Copy)]
 pub struct Inner<'n> {
     name: &'n Name,
-    /// The place of the group that the instance is one of.
+    /// The place of the instance's own group.
     place: usize,
-    /// How many places further on, behind each scope of the group.
+    /// How many places after each scope of the group.
     offset: u32,
 }
 
@@ -51,7 +52,7 @@ impl<'n> Model for AllScopes<'n> {
         × AreAllInside all.scopes (map (λ one. one.items) all.inner.items) };
 }
 
-/// Whether the scopes so many and so many places behind a scope are the same.
+/// Whether the scopes at two offsets after a scope are equal.
 fn are_same_from(scopes: &[Scope], base: usize, offset: usize, first: usize) -> bool
     ensures { IsTrue result → slice_get scopes.now (base + offset) ≡ slice_get scopes.now (base + first) }
 {
@@ -67,7 +68,7 @@ fn are_same_from(scopes: &[Scope], base: usize, offset: usize, first: usize) -> 
     }
 }
 
-/// Whether the scopes so many and so many places behind each scope of the group are the same.
+/// Whether the scopes at two offsets are equal after each scope of the group.
 fn are_alike(scopes: &[Scope], group: usize, offset: usize, first: usize) -> bool
     ensures { IsTrue result → IsAlike scopes.now group offset first }
 {
@@ -82,7 +83,7 @@ fn are_alike(scopes: &[Scope], group: usize, offset: usize, first: usize) -> boo
     true
 }
 
-/// By how many places further on the first scope is that is the same as one that is so many further on.
+/// The offset of the first scope that is equal to the one at an offset.
 fn first_alike(scopes: &[Scope], guide: &Guide<'_>, group: usize, offset: u32) -> u32
     ensures { IsAlike scopes.now group offset result }
 {
@@ -97,7 +98,7 @@ fn first_alike(scopes: &[Scope], guide: &Guide<'_>, group: usize, offset: u32) -
     }
 }
 
-/// For each scope inside one of a group, the first one that is the same.
+/// For each offset in a scope of a group, the offset of the first scope that is equal.
 fn firsts_in(
     alloc: Global,
     scopes: &[Scope],
@@ -114,7 +115,7 @@ fn firsts_in(
     Ok(firsts)
 }
 
-/// For each group, and each scope inside one of the group, the first one that is the same.
+/// For each group and each offset, the offset of the first scope that is equal.
 fn firsts_of_groups(
     alloc: Global,
     scopes: &[Scope],
@@ -131,7 +132,7 @@ fn firsts_of_groups(
     Ok(lists)
 }
 
-/// What is behind a front.
+/// The bytes after a prefix; none where it is not a prefix.
 fn behind<'b>(whole: &'b [u8], front: &[u8]) -> Option<&'b [u8]>
     ensures { (rest : List ℕ) → option_map (λ found. found.now) result ≡ Some rest → whole.now ≡ front.now ++ rest }
 {
@@ -154,7 +155,7 @@ fn is_inside(inner: &Scope, scope: &Scope, name: &Name, place: usize) -> bool
     }
 }
 
-/// Whether the scope inside an instance stands so many places behind a scope.
+/// Whether the scope inside an instance is at an offset after a scope.
 fn leads_from(
     scopes: &[Scope],
     base: usize,
@@ -174,7 +175,7 @@ fn leads_from(
     }
 }
 
-/// Whether the scope inside an instance of a group stands so many places behind each scope of the group.
+/// Whether the scope inside an instance of a group is at an offset after each scope of the group.
 fn leads(scopes: &[Scope], group: usize, name: &Name, place: usize, offset: usize) -> bool
     ensures { IsTrue result → LeadsTo scopes.now group name.now place offset }
 {
@@ -189,7 +190,7 @@ fn leads(scopes: &[Scope], group: usize, name: &Name, place: usize, offset: usiz
     true
 }
 
-/// Where the scope inside an instance of a group stands. Nothing of a component, which has none.
+/// The offset of the scope inside an instance of a group. None for a component, which has no scope.
 fn inner_of<'n>(
     names: &NestNames<'n>,
     scopes: &[Scope],
@@ -212,7 +213,7 @@ fn inner_of<'n>(
     None
 }
 
-/// Where the scopes inside the instances of a group stand.
+/// The offsets of the scopes inside the instances of a group.
 fn inner_in<'n>(
     alloc: Global,
     names: &NestNames<'n>,
@@ -231,7 +232,7 @@ fn inner_in<'n>(
     Ok(inner)
 }
 
-/// For each group, where the scopes inside its instances stand.
+/// For each group, the offsets of the scopes inside its instances.
 fn inner_of_groups<'n>(
     alloc: Global,
     names: &NestNames<'n>,
@@ -254,7 +255,7 @@ fn same_name(one: &Name, other: &Name) -> bool
     one.as_slice() == other.as_slice()
 }
 
-/// How many places further on the scope inside the instance of a name stands, which is one of the group at a place.
+/// The offset of the scope inside the instance of a name, whose group is at a place.
 fn offset_of(inner: &[Inner<'_>], name: &Name, place: usize) -> Option<u32>
     ensures { (scopes : List Scopes) (group offset : ℕ) → result ≡ Some offset → AreInside scopes group inner.now
         → LeadsTo scopes group name.now place offset }
@@ -291,7 +292,7 @@ impl<'n> AllScopes<'n> {
         self.scopes.as_slice()
     }
 
-    /// For each scope inside one of a group, the first one that is the same.
+    /// For each offset in a scope of a group, the offset of the first scope that is equal.
     pub(crate) fn firsts(&self, group: usize) -> &[u32]
         ensures { AreAlike self.now group result.now }
     {
@@ -301,7 +302,7 @@ impl<'n> AllScopes<'n> {
         }
     }
 
-    /// How many places further on the scope inside an instance of a group stands, behind each scope of the group.
+    /// The offset of the scope inside an instance of a group, after each scope of the group.
     pub(crate) fn offset(&self, group: usize, name: &Name, place: usize) -> Option<u32>
         ensures { (offset : ℕ) → result ≡ Some offset → LeadsTo self.now group name.now place offset }
     {

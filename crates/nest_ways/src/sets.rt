@@ -1,4 +1,4 @@
-//! Sets of numbers, by words of 64 bits.
+//! Sets of numbers, as words of 64 bits.
 ghost use Rattle.std.specs.Prelude.{◌≡◌, ◌⊎◌, ◌<◌, ◌≤◌, ℕ, length, Some, IfOk, IsTrue, OnOk};
 ghost use Rattle.nest_ways.specs.Sets.{HasAt, HasNumber, HasSame, IsInWord};
 ghost use Rattle.nest_ways.specs.declared.sets.NumberSet.{NumberSet as NumberSets};
@@ -9,7 +9,7 @@ use nest_names::at;
 use smallvec::SmallVec;
 use std::alloc::Global;
 
-/// How many numbers a word has room for.
+/// How many numbers a word is for.
 pub(crate) const WORD_BITS: u32 = 64;
 
 /// Which of the numbers below 64 are in a set.
@@ -18,7 +18,7 @@ pub struct SetWord {
     bits: u64,
 }
 
-/// What stands where a short list has no word yet.
+/// What a short list has at a place without a word.
 impl Default for SetWord {
     fn default() -> SetWord {
         SetWord::empty()
@@ -43,7 +43,7 @@ impl SetWord {
         self.bits & (1 << number) != 0
     }
 
-    /// The set with one number more, where it is below 64.
+    /// The set with one more number, if it is below 64.
     pub(crate) fn with(self, number: u32) -> SetWord
         ensures there { number < 64 → IsInWord result number }
         ensures still { (one : ℕ) → IsInWord self one → IsInWord result one }
@@ -56,7 +56,7 @@ impl SetWord {
         SetWord { bits }
     }
 
-    /// Whether all its numbers are in another set.
+    /// Whether all its numbers are in another word.
     fn is_within(self, other: SetWord) -> bool
         ensures { IsTrue result → (number : ℕ) → IsInWord self number → IsInWord other number }
     {
@@ -72,10 +72,10 @@ impl SetWord {
     }
 }
 
-/// How many words of a set stand in the set itself.
+/// How many words are stored in the set itself.
 const FEW_WORDS: usize = 3;
 
-/// How many words the numbers of one group stand in at most.
+/// The most words for the numbers of one group.
 const MOST_WORDS: usize = MOST_NUMBERS / 64 + 1;
 
 /// The words of a set, in turn.
@@ -84,7 +84,7 @@ type Words = SmallVec<SetWord, FEW_WORDS>;
 /// A set of numbers.
 #[derive(Drop)]
 pub struct NumberSet {
-    /// How many words of lower numbers are left out: none of these is in the set.
+    /// How many words of lower numbers are left out; the set has none of these numbers.
     start: usize,
     words: Words,
 }
@@ -99,7 +99,7 @@ fn word_at(words: &[SetWord], place: usize) -> SetWord
     }
 }
 
-/// Puts empty words behind others until there is one at the place.
+/// Adds empty words at the end until there is one at the place.
 fn grow_to(words: &mut Words, place: usize) -> Result<(), NoMemory>
     ensures still { OnOk result ((at bit : ℕ) → HasAt words.old.items at bit → HasAt words.new.items at bit) }
     ensures only { OnOk result ((at bit : ℕ) → HasAt words.new.items at bit → HasAt words.old.items at bit) }
@@ -111,7 +111,7 @@ fn grow_to(words: &mut Words, place: usize) -> Result<(), NoMemory>
     Ok(())
 }
 
-/// Puts a bit into the word at a place.
+/// Sets a bit of the word at a place.
 fn put_bit(words: &mut Words, place: usize, bit: u32)
     requires { place < length words.old.items }
     ensures there { bit < 64 → HasAt words.new.items place bit }
@@ -123,7 +123,7 @@ fn put_bit(words: &mut Words, place: usize, bit: u32)
     }
 }
 
-/// Puts the bits of a word into the one at a place, where there is one.
+/// Adds the bits of a word to those of the word at a place, if there is one.
 fn put_word(words: &mut Words, place: usize, more: SetWord)
     ensures { (at bit : ℕ) → HasAt words.new.items at bit → ((at ≡ place) × IsInWord more bit) ⊎ HasAt words.old.items at bit }
 {
@@ -146,7 +146,7 @@ fn empty_before(words: &[SetWord]) -> usize
 }
 
 impl NumberSet {
-    /// No numbers, with room for those from the first one on.
+    /// Returns an empty set, with room for numbers from `first` on.
     pub(crate) fn new(alloc: Global, first: usize) -> NumberSet
         ensures { (number : ℕ) → HasNumber result number → ⊥ }
     {
@@ -156,7 +156,7 @@ impl NumberSet {
         }
     }
 
-    /// Puts a number into the set, where there is room for it. Tells whether it was put.
+    /// Adds a number, if there is room for it. Returns whether it did.
     pub(crate) fn put(&mut self, number: usize) -> Result<bool, NoMemory>
         ensures there { IfOk result (λ told. IsTrue told → HasNumber self.new number) }
         ensures still { OnOk result ((one : ℕ) → HasNumber self.old one → HasNumber self.new one) }
@@ -170,7 +170,7 @@ impl NumberSet {
         Ok(true)
     }
 
-    /// The same numbers, without empty words before them.
+    /// The same numbers, without empty words before the first one.
     pub(crate) fn trimmed(&self) -> Result<Option<NumberSet>, NoMemory>
         ensures { IfOk result (λ told. (made : NumberSets) → told ≡ Some made → HasSame made self.now) }
     {
@@ -200,7 +200,8 @@ impl NumberSet {
         true
     }
 
-    /// Chooses which words are left out, where there are none yet: there is room then for all numbers of the group of a set.
+    /// Chooses how many words are left out, if the set has no words yet, so that there is room for all numbers of the
+    /// group.
     fn begin(&mut self, set: &NumberSet)
         ensures { (number : ℕ) → HasNumber self.new number → HasNumber self.old number }
     {
@@ -209,7 +210,8 @@ impl NumberSet {
         }
     }
 
-    /// Puts all numbers of another set of the same group. A set that began before the words of this one would be left out: none of a group does.
+    /// Adds all numbers of another set of the same group. The words of a set that begins earlier would be left out; no
+    /// set of the same group does.
     pub(crate) fn put_all(&mut self, set: &NumberSet) -> Result<(), NoMemory>
         ensures { OnOk result ((number : ℕ) → HasNumber self.new number → HasNumber set.now number ⊎ HasNumber self.old number) }
     {

@@ -1,4 +1,4 @@
-//! Where the lines of inputs of groups lead, by numbers, so that each name is looked up once.
+//! The steps of inputs of groups, by numbers, so that each name is looked up once.
 ghost use Rattle.std.specs.Prelude.{◌≡◌, ◌∷◌, [], ℕ, List, None, Some, IfOk, slice_get};
 ghost use Rattle.nest_names.specs.Flattening.{place_at};
 ghost use Rattle.nest_names.specs.declared.scope.Scope.{Scope};
@@ -15,51 +15,52 @@ use nest_text::Bind;
 use smallvec::SmallVec;
 use std::alloc::Global;
 
-/// Through an instance of a group, or several in each other, to an input of a group.
+/// A step into an instance of a group, or several nested ones, to an input of a group.
 #[derive(Clone, Copy, Debug, PartialEq, Eq)]
 pub struct Inside {
-    /// How many places further on the scope inside stands in the list of all scopes.
+    /// How many places later the inner scope is, in the list of all scopes.
     pub offset: u32,
     /// The place of the input among those that are known.
     pub input: u32,
 }
 
-/// Where an `in` line of a group leads.
+/// A step from an input of a group, by one of its `in` lines.
 #[derive(Clone, Copy, Debug, PartialEq, Eq)]
 pub enum Step {
-    /// To an input of a component: the one to which the line at this place of the group leads, the first one that does.
+    /// To an input of a component: the inner port of the line at this place, the first one with this inner port.
     Component(u32),
     /// To an input of a group.
     Inside(Inside),
 }
 
-/// What stands where a short list has no step yet.
+/// What a short list has at a place without a step.
 impl Default for Step {
     fn default() -> Step {
         Step::Component(0)
     }
 }
 
-/// How many steps stand in what is known of an input itself. Most inputs have no more lines, and walks read these without a look elsewhere.
+/// How many steps are stored in a known input itself. Most inputs have no more lines, so that walks read these without
+/// another memory access.
 const FEW_STEPS: usize = 4;
 
-/// Where the lines of an input lead, in turn.
+/// The steps of an input, one for each of its lines, in turn.
 pub type InputSteps = SmallVec<Step, FEW_STEPS>;
 
-/// What is known of an input of a group.
+/// A known input of a group.
 #[derive(Drop)]
 pub struct Known<'n> {
     pub group: usize,
     pub port: &'n [u8],
-    /// How many levels further down the inputs of components are, at most, that it leads to.
+    /// How many levels down, at most, the inputs of components are that it reaches.
     pub height: usize,
-    /// Where its lines lead.
+    /// Its steps.
     pub steps: InputSteps,
-    /// The inputs of components that it leads to, where they are few and not those of one step into a group.
+    /// The inputs of components that it reaches, where they are few. None for an input with one step into a group.
     pub ends: Option<List<End>>,
 }
 
-/// The only step of an input, where that leads into a group.
+/// The only step of an input, if it has one step and this leads into a group.
 pub(crate) fn only_inside(steps: &[Step]) -> Option<Inside>
     ensures { (inside : _) → result ≡ Some inside → steps.now ≡ step_is.Inside inside ∷ [] }
 {
@@ -72,14 +73,14 @@ pub(crate) fn only_inside(steps: &[Step]) -> Option<Inside>
     }
 }
 
-/// A step, and how many levels further down the inputs of components are, at most, that it leads to.
+/// A step, and how many levels down, at most, the inputs of components are that it reaches.
 #[derive(Clone, Copy)]
 pub(crate) struct Descent {
     step: Step,
     height: usize,
 }
 
-/// The place of what is known of an input of a group.
+/// The place of a known input of a group.
 pub(crate) fn find(
     known: &[Known<'_>],
     guide: &Guide<'_>,
@@ -96,7 +97,7 @@ pub(crate) fn find(
     None
 }
 
-/// Where a line leads that leads to a component.
+/// The step of a line that leads to a component.
 fn component_step<'n>(
     names: &NestNames<'n>,
     guide: &Guide<'n>,
@@ -117,7 +118,8 @@ fn component_step<'n>(
     Some(Descent { step, height: 0 })
 }
 
-/// The step to an input, or past it where it has one line only, which leads into a group: so chains of such inputs are gone along once.
+/// The step to an input; or, where that input has only one line and this leads into a group, the two steps joined. So a
+/// chain of such inputs is one step.
 fn past(inner: &Known<'_>, step: Inside) -> Option<Inside>
     ensures { (one : _) → result ≡ Some one → IsPast inner.now.steps.items step one }
 {
@@ -129,7 +131,7 @@ fn past(inner: &Known<'_>, step: Inside) -> Option<Inside>
     Some(Inside { offset, input })
 }
 
-/// Where a line leads that leads into a group.
+/// The step of a line that leads into a group.
 fn inside_step<'n>(
     names: &NestNames<'n>,
     scopes: &AllScopes<'n>,
@@ -156,7 +158,7 @@ fn inside_step<'n>(
     Some(Descent { step, height })
 }
 
-/// Where a line of a group leads.
+/// The step of a line of a group.
 fn step_of<'n>(
     names: &NestNames<'n>,
     scopes: &AllScopes<'n>,
@@ -176,14 +178,14 @@ fn step_of<'n>(
     }
 }
 
-/// Where the lines of an input lead, and how many levels further down the inputs of components are, at most.
+/// The steps of an input, and how many levels down, at most, the inputs of components are that it reaches.
 #[derive(Drop)]
 pub(crate) struct Steps {
     pub(crate) steps: InputSteps,
     pub(crate) height: usize,
 }
 
-/// Where the lines of an input lead, where that is known of the inputs inside.
+/// The steps of an input, if the inner inputs that it leads to are known.
 pub(crate) fn steps_of<'n>(
     alloc: Global,
     names: &NestNames<'n>,

@@ -28,7 +28,7 @@ fn ins_of<'n>(names: &NestNames<'n>, group: Option<usize>) -> &'n [Bind]
     }
 }
 
-/// Puts the input at a line of a scope behind others.
+/// Appends the input at a line of a scope.
 fn put_input(
     alloc: Global,
     names: &NestNames<'_>,
@@ -81,18 +81,18 @@ fn place_of(scopes: &[Scope], scope: &Scope) -> Option<usize>
     None
 }
 
-/// What a walk came to.
+/// The result of a walk.
 #[derive(Drop)]
 pub enum Reach {
     /// All inputs that are reached.
     All(List<Spot>),
-    /// There are more than there may be.
+    /// There are more than allowed.
     TooMany,
-    /// Nothing is known of the input, or the walk ended before it came to all of them.
+    /// Nothing is known of the input, or the walk ended before it had all of them.
     Unknown,
 }
 
-/// What a walk came to that has put these inputs.
+/// The result of a walk that has added these inputs.
 fn reach_of(whole: bool, spots: List<Spot>, most: usize) -> Reach
     ensures { (put all : List Spots) → PutsUpTo whole put all → spots ≡ distinct [] put → Reaches most (distinct [] all) result }
 {
@@ -104,7 +104,7 @@ fn reach_of(whole: bool, spots: List<Spot>, most: usize) -> Reach
     if many { Reach::TooMany } else { Reach::Unknown }
 }
 
-/// What is known of an input of a group, in the scope from which a walk begins.
+/// The known input of a group, in the scope from which a walk begins.
 fn first_inlet(ways: &Ways<'_>, guide: &Guide<'_>, group: usize, port: &[u8]) -> Option<Inlet>
     ensures { (inlet : _) → result ≡ Some inlet → IsFirst ways.now.known.items group port.now inlet }
 {
@@ -119,7 +119,8 @@ fn first_inlet(ways: &Ways<'_>, guide: &Guide<'_>, group: usize, port: &[u8]) ->
     Some(Inlet { scope: 0, input })
 }
 
-/// The inputs of components that an input of a group reaches in a scope. Where they are more than so many, that may be all that is told.
+/// The inputs of components that an input of a group reaches in a scope. Where they are more than `most`, the result
+/// may be `TooMany`.
 fn walk_from<'n>(
     alloc: Global,
     names: &NestNames<'n>,
@@ -158,7 +159,8 @@ fn walk_from<'n>(
     Ok(reach_of(whole, kept, most))
 }
 
-/// The inputs of components that an input of a scope reaches. Where they are more than so many there may be none.
+/// Returns the inputs of components that an input of a scope reaches. Where they are more than `most`, it may return
+/// `None`.
 pub fn reached<'n>(
     alloc: Global,
     names: &NestNames<'n>,

@@ -1,9 +1,12 @@
-//! What an input of a group leads to in one scope, however much it is.
+//! Finding all inputs of components that an input of a group reaches in one scope, without a limit on their number.
 //!
-//! What is kept of an input is put; where nothing is kept, its steps are gone along. Then it is done: where a step leads to it again in that
-//! scope, nothing more is put. So a walk may come to an input by many steps, and goes on from it once in each scope. Inputs that lead to much
-//! the same are put once, too: what was put from a scope is noted by numbers, and an input is done where all that is kept of it was put from
-//! there for others, which is told by words of 64 numbers. How a walk goes on decides its time alone: no clause tells.
+//! Where inputs are kept for an input, they are added; where nothing is kept, its steps are taken. Then the input is
+//! finished: where a step leads to it again in that scope, nothing more is added. So a walk may meet an input by many
+//! steps, and goes on from it once in each scope.
+//!
+//! Inputs that reach much the same are added once, too. What was added from a scope is recorded by numbers, and an
+//! input is finished where all that is kept for it was added from there for others. This is tested by words of 64
+//! numbers. How a walk goes on affects only its time; no clause depends on it.
 ghost use Rattle.std.specs.Prelude.{◌≡◌, ◌∷◌, ◌+◌, [], ℕ, List, Some, IfOk, IsTrue, OnOk, slice_get};
 ghost use Rattle.std.specs.Option.{option_to_list};
 ghost use Rattle.nest_text.specs.declared.nest.Bind.{Bind};
@@ -23,34 +26,34 @@ use fixed_words::{List, NoMemory};
 use nest_names::{NestNames, at};
 use std::alloc::Global;
 
-/// A scope from which others are told, its group, and what is known of the inputs of groups.
+/// The start of a walk: a scope from which others are counted, its group, and the known inputs of groups.
 #[derive(Clone, Copy)]
 pub struct Start<'a, 'n> {
     pub names: &'a NestNames<'n>,
     pub ways: &'a Ways<'n>,
     pub base: usize,
     pub group: usize,
-    /// The most inputs of components that may be reached.
+    /// The most inputs of components that are allowed.
     pub most: usize,
 }
 
 /// An input of a group in a scope.
 #[derive(Clone, Copy)]
 pub struct Inlet {
-    /// How many places further on the scope stands in the list of all scopes.
+    /// How many places after the start the scope is, in the list of all scopes.
     pub scope: u32,
     /// The place of the input among those that are known.
     pub input: u32,
 }
 
-/// What was put so far.
+/// What was added so far.
 #[derive(Drop)]
 pub struct Walk {
     /// The inputs of components, each once.
     pub ends: List<End>,
-    /// The inputs of groups that are done: all that they lead to was put.
+    /// The inputs of groups that are finished: all that they reach was added.
     pub done: DoneInputs,
-    /// From which scopes the inputs of components were put, by numbers.
+    /// The numbers of the inputs of components that were added, for each scope.
     pub put: PutSets,
 }
 
@@ -65,7 +68,7 @@ fn scope_number(start: &Start<'_, '_>, inlet: Inlet) -> Option<u32>
     start.ways.group_scopes.number(scope.group?, place)
 }
 
-/// Whether all that is kept of an input was put from its scope.
+/// Whether all that is kept for an input was added from its scope.
 fn is_put(start: &Start<'_, '_>, walk: &Walk, inlet: Inlet) -> bool
     requires { IsWalkFrom start.now walk.now }
     ensures { IsTrue result → (known : Knowns) → slice_get start.now.ways.now.known.items inlet.input ≡ Some known
@@ -77,7 +80,7 @@ fn is_put(start: &Start<'_, '_>, walk: &Walk, inlet: Inlet) -> bool
     }
 }
 
-/// Whether an input is noted as done in its scope.
+/// Whether an input is recorded as finished in its scope.
 fn is_done(start: &Start<'_, '_>, walk: &Walk, inlet: Inlet) -> bool
     requires done { AreDoneFrom start.now walk.now }
     requires there { IsInletFrom start.now inlet }
@@ -90,7 +93,7 @@ fn is_done(start: &Start<'_, '_>, walk: &Walk, inlet: Inlet) -> bool
     walk.done.has(inlet.input as usize, number)
 }
 
-/// Notes that an input is done in its scope.
+/// Records that an input is finished in its scope.
 fn note_done(start: &Start<'_, '_>, walk: &mut Walk, inlet: Inlet)
     requires done { AreDoneFrom start.now walk.old }
     requires there { IsInletFrom start.now inlet }
@@ -104,7 +107,7 @@ fn note_done(start: &Start<'_, '_>, walk: &mut Walk, inlet: Inlet)
     }
 }
 
-/// Notes that all that is kept of an input was put from its scope.
+/// Records that all that is kept for an input was added from its scope.
 fn note_put(start: &Start<'_, '_>, walk: &mut Walk, inlet: Inlet) -> Result<(), NoMemory>
     requires walk { IsWalkFrom start.now walk.old }
     requires there { IsInletFrom start.now inlet }
@@ -119,7 +122,7 @@ fn note_put(start: &Start<'_, '_>, walk: &mut Walk, inlet: Inlet) -> Result<(), 
     }
 }
 
-/// Notes that all that an input leads to was put.
+/// Records that all that an input reaches was added.
 fn note_whole(start: &Start<'_, '_>, walk: &mut Walk, inlet: Inlet) -> Result<(), NoMemory>
     requires walk { IsWalkFrom start.now walk.old }
     requires there { IsInletFrom start.now inlet }
@@ -132,7 +135,8 @@ fn note_whole(start: &Start<'_, '_>, walk: &mut Walk, inlet: Inlet) -> Result<()
     note_put(start, walk, inlet)
 }
 
-/// Whether a walk from an input puts at once what is kept of it, or of the input that its one step leads to: then it comes to none again.
+/// Whether a walk from an input adds at once what is kept for it, or for the input at the end of its one step. Then it
+/// meets no input again.
 fn is_put_at_once(known: &[Known<'_>], input: u32) -> bool {
     let Some(first) = at(known, input as usize) else {
         return true;
@@ -146,8 +150,8 @@ fn is_put_at_once(known: &[Known<'_>], input: u32) -> bool {
     }
 }
 
-/// For how many inputs and from how many scopes a walk from an input of a group notes what was put. A walk without room for that goes on all
-/// the same, and takes long where it comes to inputs again.
+/// For how many inputs and for how many scopes a walk from an input of a group records what was added. A walk without
+/// room for records still works, but takes long where it meets inputs again.
 fn room_of(ways: &Ways<'_>, group: usize, input: u32) -> (usize, usize) {
     if is_put_at_once(ways.known.as_slice(), input) {
         (0, 0)
@@ -157,7 +161,7 @@ fn room_of(ways: &Ways<'_>, group: usize, input: u32) -> (usize, usize) {
 }
 
 impl Walk {
-    /// A walk that has put nothing yet, from an input of a group.
+    /// Returns a walk that has added nothing yet, from an input of a group.
     pub(crate) fn new(
         alloc: Global,
         ways: &Ways<'_>,
@@ -176,7 +180,7 @@ impl Walk {
     }
 }
 
-/// Puts the inputs of components that are kept of an input.
+/// Adds the inputs of components that are kept for an input.
 fn put_kept<'n>(
     start: &Start<'_, 'n>,
     guide: &mut Guide<'n>,
@@ -195,7 +199,7 @@ fn put_kept<'n>(
     put_onward(guide, firsts, start.most, inlet.scope, kept, &mut walk.ends)
 }
 
-/// Puts the input of a component.
+/// Adds the input of a component.
 fn walk_component<'n>(
     start: &Start<'_, 'n>,
     guide: &mut Guide<'n>,
@@ -213,7 +217,7 @@ fn walk_component<'n>(
     put_within(guide, start.most, End { scope, line }, &mut walk.ends)
 }
 
-/// By how many places further on a scope stands that stands so many behind another: the first one that is the same.
+/// The offset of a scope that is at an offset after another: that of the first scope that is equal.
 fn scope_behind(start: &Start<'_, '_>, scope: u32, offset: u32) -> Option<u32>
     requires { IsScopeAt start.now.ways.now.scopes start.now.base start.now.group }
     ensures { (inner : ℕ) → result ≡ Some inner
@@ -223,7 +227,7 @@ fn scope_behind(start: &Start<'_, '_>, scope: u32, offset: u32) -> Option<u32>
     Some(first_same(start.ways.scopes.firsts(start.group), onward))
 }
 
-/// Puts the inputs of components that a step through a group leads to.
+/// Adds the inputs of components that a step into a group reaches.
 #[cycle(walk)]
 fn walk_inside<'n>(
     start: &Start<'_, 'n>,
@@ -250,7 +254,7 @@ fn walk_inside<'n>(
     walk_inlet(start, guide, walk, Inlet { scope, input })
 }
 
-/// Puts the inputs of components that a step leads to.
+/// Adds the inputs of components that a step reaches.
 #[cycle(walk)]
 fn walk_step<'n>(
     start: &Start<'_, 'n>,
@@ -275,7 +279,7 @@ fn walk_step<'n>(
     }
 }
 
-/// Puts the inputs of components that the steps of an input lead to, until there are more than there may be.
+/// Adds the inputs of components that the steps of an input reach, until there are more than allowed.
 #[cycle(walk)]
 fn walk_steps<'n>(
     start: &Start<'_, 'n>,
@@ -298,7 +302,8 @@ fn walk_steps<'n>(
     Ok(true)
 }
 
-/// Puts the inputs of components that an input leads to: those that it keeps, or by its steps, where it keeps none.
+/// Adds the inputs of components that an input reaches: those that are kept for it, or by its steps, where none are
+/// kept.
 #[cycle(walk)]
 fn walk_known<'n>(
     start: &Start<'_, 'n>,
@@ -319,8 +324,8 @@ fn walk_known<'n>(
     }
 }
 
-/// Puts the inputs of components that an input of a group leads to, where it is not done, until there are more than there may be. Tells
-/// whether all were put; then it is done.
+/// Adds the inputs of components that an input of a group reaches, if it is not finished, until there are more than
+/// allowed. Returns whether all were added; the input is then finished.
 #[cycle(walk)]
 pub(crate) fn walk_inlet<'n>(
     start: &Start<'_, 'n>,

@@ -1,4 +1,5 @@
--- The equations of ports look at the places that they need alone; where no output faults by itself, all are defined.
+-- The equations of ports depend only on the places that they need. Where no output has a fault of its own, all are
+-- defined.
 use Rattle.std.proofs.Common.{◌≡◌, ℕ, zero, suc, ◌+◌, ◌<◌, Bool, true, false, cond, ℤ, List, [], ◌∷◌, ◌++◌, map, length, Option, Some, None, Ok, Err, refl, ap}
 use Rattle.std.proofs.Common.{sym, subst, ◌∙◌, arith}
 use Rattle.std.proofs.lemmas.List.{length-map, map-append}
@@ -55,7 +56,7 @@ pub outlets_count : (run : Composition) (states : List (List ℤ)) → length st
     → length (outlets run states) ≡ length (needs_of_places run)
 outlets_count run states one_each = sym (length-map (outlets run states) needs_of) ∙ ap length (needs_are run states one_each)
 
--- ---- What an output sees
+-- ---- What an output reads
 
 abbrev pub Agree : Ports → Ports → ℕ → Type 0
 Agree one other place = slice_get one place ≡ slice_get other place
@@ -83,7 +84,7 @@ word_same one other outlet agree =
 
 -- ---- The right sides are equations
 
--- What stands at a place of a list that is mapped.
+-- The element at a place of a list that is mapped.
 pub needs_here : (run : Composition) (states : List (List ℤ)) (place : ℕ) (outlet : Outlet) → length states ≡ length run.members
     → slice_get (outlets run states) place ≡ Some outlet → needs_at run place ≡ needs_of outlet
 needs_here run states place outlet one_each is =
@@ -111,7 +112,7 @@ pub outlet_at : (run : Composition) (states : List (List ℤ)) (place : ℕ) →
 outlet_at run states place one_each within =
     found_by run states place (slice_get (outlets run states) place) one_each (omega (arith, within, outlets_count run states one_each)) refl
 
--- What a solution has at a place.
+-- The value of a solution at a place.
 pub side_at : (run : Composition) (states : List (List ℤ)) (ports : Ports) (place : ℕ) (outlet : Outlet) → slice_get (outlets run states) place ≡ Some outlet
     → slice_get (right_sides run states ports) place ≡ Some (word_at ports outlet)
 side_at run states ports place outlet is = slice_get-map (word_at ports) (outlets run states) place ∙ ap (option_map (word_at ports)) is

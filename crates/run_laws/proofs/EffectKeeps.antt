@@ -24,7 +24,7 @@ use Rattle.unit_tree.specs.declared.line.Line.TheViews.{roll-Line}
 use Rattle.unit_tree.specs.declared.line.Line.TheOpen.{Line-F}
 use Rattle.unit_tree.specs.declared.unit.State.{State}
 
--- What follows a result that had no fault.
+-- The step after a result that had no fault.
 pub record Bound {A B : Type 0} (first : Result A Fault) (next : A → Result B Fault) (last : B) : Type 0 where
   pub between : A
   pub was : first ≡ Ok between
@@ -42,7 +42,7 @@ done_is one other is = cc
 
 -- ---- Words
 
--- Each word of variables is as it was, or one of its variable's type.
+-- Each word of variables is unchanged, or is one of its variable's type.
 abbrev pub Kept : List Variable → List ℤ → List ℤ → Type 0
 Kept (first ∷ variables) (old ∷ olds) (new ∷ news) = ((new ≡ old) ⊎ (is_word_of first.ty new ≡ true)) × Kept variables olds news
 Kept (first ∷ variables) (old ∷ olds) [] = ⊥
@@ -93,7 +93,7 @@ stored_keeps (first ∷ variables) (old ∷ words) changed name word is =
 
 -- ---- Effects
 
--- What an effect keeps of an environment.
+-- What an effect does not change in an environment.
 pub record KeepsEnv (env after : Environment) : Type 0 where
   pub variables : after.variables ≡ env.variables
   pub words : Kept env.variables env.words after.words
@@ -176,7 +176,7 @@ pub branch_keeps : (told : Bool) (then_lines : List Effect) (else_lines : Option
 branch_keeps true then_lines else_lines on_then on_else env after is = in_sequence_keeps then_lines on_then env after is
 branch_keeps false then_lines else_lines on_then on_else env after is = otherwise_keeps else_lines on_else env after is
 
--- Of the lines of blocks the effects are known.
+-- The effects of the lines of blocks are given.
 abbrev pub BlocksKeep : Line-F Effect → Type 0
 BlocksKeep (Line-F.Assign target value) = ⊤
 BlocksKeep (Line-F.If cond then_lines else_lines) = AllByRecursion Keeps then_lines × IfSome else_lines (AllByRecursion Keeps)

@@ -34,7 +34,7 @@ among_either [] last place (inr none) = absurd none
 among_either (first ∷ places) last place (inl is) = inl (inl is)
 among_either (first ∷ places) last place (inr later) = elim (among_either places last place later) [ inl stands ↦ inl (inr stands) | inr is ↦ inr is ]
 
--- Two lists that are as long and have the same at each place are one.
+-- Two lists of equal length with equal elements at each place are equal.
 pub same_lists : {A : Type 0} (xs ys : List A) (count : ℕ) → length xs ≡ count → length ys ≡ count
     → ((place : ℕ) → place < count → slice_get xs place ≡ slice_get ys place) → xs ≡ ys
 same_lists [] [] count x y each = refl
@@ -48,7 +48,8 @@ same_lists (x ∷ xs) (y ∷ ys) count is_x is_y each =
 
 -- ---- Equations
 
--- What the right sides of equations have to be: as many as places, each looking at the places that it needs alone.
+-- The condition on the right sides of equations: there is one for each place, and each depends only on the places
+-- that it needs.
 pub record AreEquations (run : Composition) (sides : Ports → Ports) : Type 0 where
   pub count : (ports : Ports) → length (sides ports) ≡ length (needs_of_places run)
   pub looks_at_needs : (one other : Ports) (place : ℕ) → place < length (needs_of_places run)
@@ -77,7 +78,7 @@ module _ (run : Composition) (sides : Ports → Ports) (equations : AreEquations
       same_lists one other (length (needs_of_places run)) (ap length is_one ∙ equations.count one) (ap length is_other ∙ equations.count other)
       (λ place within. each_place (λ place. slice_get one place ≡ slice_get other place) order place agree (is_order.all place within))
 
-  -- The right sides so many times, from ports that are given.
+  -- The right sides, applied this many times, from given ports.
   abbrev pub repeated : Ports → ℕ → Ports
   repeated start zero = start
   repeated start (suc count) = sides (repeated start count)
@@ -85,7 +86,7 @@ module _ (run : Composition) (sides : Ports → Ports) (equations : AreEquations
   repeated_at : (start : Ports) (j k place : ℕ) → j ≡ k → slice_get (repeated start j) place ≡ slice_get (repeated start k) place
   repeated_at start j k place same = ap (λ times. slice_get (repeated start times) place) same
 
-  -- A place keeps its word from some time on.
+  -- A place keeps its word from some number of applications on.
   abbrev Settled : Ports → ℕ → ℕ → Type 0
   Settled start count place = (more : ℕ) → slice_get (repeated start (more + count)) place ≡ slice_get (repeated start count) place
 
@@ -125,7 +126,7 @@ module _ (run : Composition) (sides : Ports → Ports) (equations : AreEquations
   length_repeated start zero is = is
   length_repeated start (suc count) is = equations.count (repeated start count)
 
-  -- The right sides, repeated from ports of which none is defined, as often as there are places, are a solution.
+  -- The right sides, applied once for each place from ports of which none is defined, are a solution.
   pub has_solution : (order : List ℕ) → IsPlaceOrder run order → (ports : Ports) × (ports ≡ sides ports)
   has_solution order is_order =
       let start : Ports = replicate (length (needs_of_places run)) None in

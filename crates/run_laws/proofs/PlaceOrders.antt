@@ -1,4 +1,4 @@
--- An order of a system's outputs is one of its places, and the other way round.
+-- An order of a system's outputs is one of its places, and conversely.
 use Rattle.std.proofs.Common.{◌≡◌, ℕ, zero, suc, ◌+◌, ◌<◌, Bool, true, false, cond, List, [], ◌∷◌, ◌++◌, map, length, Option, Some, None, inl, inr, refl, ap}
 use Rattle.std.proofs.Common.{sym, subst, ◌∙◌, ◌⊎◌, arith, append-nil}
 use Rattle.std.proofs.lemmas.Bool.{and_parts}
@@ -70,7 +70,7 @@ pub place_by : (told : Bool) (port first : PortName) (later k : ℕ) → same_po
 place_by true port first later k is other same = absurd (other (sym (same_port_is port first is)))
 place_by false port first later k is other same = omega arith
 
--- Where ports differ, what stands at a place has it as its place.
+-- If ports differ, the place of the port at a place is this place.
 pub place_is : (ports : List PortName) (k : ℕ) (port : PortName) → Distinct ports → slice_get ports k ≡ Some port → position_or_len (same_port port) ports ≡ k
 place_is [] k port apart is = absurd (cc)
 place_is (first ∷ ports) zero port apart is =
@@ -80,7 +80,7 @@ place_is (first ∷ ports) (suc k) port apart is =
     place_by (same_port port first) port first (position_or_len (same_port port) ports) k refl
     (λ same. apart.0 (subst (Has ports) (sym same) (has_at ports k port is))) (place_is ports k port apart.1 is)
 
--- ---- Lists side by side
+-- ---- Lists element by element
 
 -- ---- Units and their outputs
 
@@ -223,7 +223,7 @@ module _ (system : System) (plain : HasNoEvents system) (differ : NamesDiffer sy
     inputs_needed (input ∷ inputs) =
         input_by (is_among output.needs input.name) input (sources_of system (port_of instance input.name)) _ refl refl (inputs_needed inputs)
 
-  -- ---- Places side by side with outputs
+  -- ---- Places and outputs, element by element
 
   abbrev pub needs_in : Member → List (List ℕ)
   needs_in member = map (places_needed member) member.component.unit.outputs
@@ -238,7 +238,7 @@ module _ (system : System) (plain : HasNoEvents system) (differ : NamesDiffer sy
       ∙ found (λ (port : Port). port.name) (map plain_port unit.outputs) (plain_port output)
       (subst (λ names. Distinct names) (sym (names_plain unit.outputs)) unit_known.apart) (has_map plain_port unit.outputs output has)
 
-  -- What holds of each output and the places that it needs.
+  -- What is known of each output and the places that it needs.
   module _ (R : PortName → List ℕ → Type 0)
       (holds : (instance : Instance) (unit : Unit) (output : Output) → instance_named system instance.name ≡ Some instance
       → unit_of_instance system instance ≡ Some unit → Has unit.outputs output
@@ -348,7 +348,7 @@ module _ (system : System) (plain : HasNoEvents system) (differ : NamesDiffer sy
     },
   )
 
-  -- ---- The way back: where each output and its place come from
+  -- ---- The converse: where each output and its place come from
 
   -- The plain input of a name, where there are no others.
   pub input_named : (inputs : List Input) (events : List EventIn) (name : List ℕ) → events ≡ []
@@ -404,7 +404,7 @@ module _ (system : System) (plain : HasNoEvents system) (differ : NamesDiffer sy
   one_by true port wire others source none later (inr stands) = absurd (subst (λ all. IsIn all source) (none refl) stands)
   one_by false port wire others source none later stands = later stands
 
-  -- At most one is.
+  -- At most one output is.
   pub one_source : (port : PortName) (wires : List Wire) (source : PortName) → Distinct (map (λ (wire : Wire). wire.to) wires)
       → IsIn (sources_among port wires) source → sources_among port wires ≡ source ∷ []
   one_source port [] source once stands = absurd stands

@@ -128,7 +128,7 @@ some_output system port d found = subst (λ p. is_none (output_at system p) ≡ 
 abbrev pub targets : List Wire → List PortName
 targets wires = map (λ (wire : Wire). wire.to) wires
 
--- Ports are looked for by their names.
+-- Ports are searched by their names.
 pub is_in : (ports : List PortName) (port : PortName) → list_any (same_port port) ports ≡ true → IsIn ports port
 is_in [] port told = absurd (cc)
 is_in (first ∷ ports) port told =
@@ -201,7 +201,7 @@ module _ (system : System) (ranged : IsRanged system) (kept : IsWellFormed syste
       (made_stands system ranged kept of.one.from (comes_from_output of.one of.has) made.from
       (from_by (is_event_output system of.one.from) of.one made of.inside)))
 
-  -- A connection of the plain form leads to what one of the system becomes.
+  -- A connection of the plain form ends at a port that the end of the system's connection becomes.
   pub leads_to : (wire made : Wire) (port : PortName) → Has (plain_wires system wire) made → made.to ≡ port → (wire.to ≡ port) ⊎ (presence_port wire.to ≡ port)
   leads_to wire made port has is =
       elim (wire_by (is_event_output system wire.from) wire made has) [
@@ -246,7 +246,7 @@ module _ (system : System) (ranged : IsRanged system) (kept : IsWellFormed syste
   itself_by true other one = inr (inl refl)
   itself_by false other one = inl refl
 
-  -- An output of the system, as the plain form has it, needs there what it needs in the system.
+  -- An output of the system needs in the plain form what it needs in the system.
   pub record Still (port source : PortName) : Type 0 where
     pub stands : IsIn (outputs_of system) source
     pub needed : IsIn (needed_by plain port) source
@@ -284,7 +284,7 @@ module _ (system : System) (ranged : IsRanged system) (kept : IsWellFormed syste
       let d = declared system port stands in
       subst (λ p. Has (needed_by system p) source → Still p source) d.is (still_of port d source)
 
-  -- ---- An orderly list of the plain form, without the ports that tell of events
+  -- ---- An orderly list of the plain form, without the ports `p?` of events
 
   abbrev pub is_output : PortName → Bool
   is_output port = list_any (same_port port) (outputs_of system)

@@ -1,4 +1,4 @@
--- What a system and its plain form have in common: numbers, instances, and how many ticks a second has.
+-- What a system and its plain form have in common: numbers, instances, and the ticks of a second.
 use Rattle.std.proofs.Common.{◌≡◌, Bool, true, false, cond, List, [], ◌∷◌, map, Option, Some, None, refl, ap, ◌∙◌}
 use Rattle.std.specs.Prelude.{is_none, ◌==◌, max}
 use Rattle.std.specs.List.{AllByRecursion, fold}

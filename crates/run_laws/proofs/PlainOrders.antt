@@ -213,7 +213,7 @@ names_are unit (output ∷ outputs) events = ap (λ rest. output.name ∷ rest) 
 abbrev pub event_name : EventOut → List ℕ
 event_name event = event.name
 
--- A name among those of both ports is an event's, or one of presence.
+-- A name among those of both ports is the event port's, or that of its `?` port.
 pub among_both : (events : List EventOut) (name : List ℕ) → Has (flat_map both_names events) name
     → Has (map event_name events) name ⊎ ((other : List ℕ) × Has (map event_name events) other × (name ≡ presence_name other))
 among_both [] name has = absurd has
@@ -289,7 +289,7 @@ plain_named [] name = refl
 plain_named (first ∷ units) name =
     plain_named_by (bytes_eq first.name name) first (unit_named (map plain_unit units) name) (unit_named units name) (plain_named units name)
 
--- A connection to a port, among some.
+-- A connection to a port, in a list.
 pub record Joined (wires : List Wire) (port source : PortName) : Type 0 where
   pub wire : Wire
   pub has : Has wires wire
@@ -326,7 +326,7 @@ has_source (first ∷ wires) port wire (inr has) to =
 abbrev pub presence_wire : Wire → Wire
 presence_wire wire = record { from = presence_port wire.from; to = presence_port wire.to }
 
--- A connection of the plain form is one of the system, or that of the two ports which tell of an event.
+-- A connection of the plain form is one of the system, or connects the two `?` ports of event ports.
 pub wire_by : (told : Bool) (wire plain : Wire) → Has (cond told (presence_wire wire ∷ wire ∷ []) (wire ∷ [])) plain
     → (wire ≡ plain) ⊎ ((told ≡ true) × (presence_wire wire ≡ plain))
 wire_by true wire plain (inl is) = inr (refl, is)
@@ -429,7 +429,7 @@ module _ (system : System) (ranged : IsRanged system) (kept : IsWellFormed syste
       → unit_of_instance plain instance ≡ Some (plain_unit unit)
   plain_unit_is instance unit is = plain_named system.units instance.unit ∙ ap (option_map plain_unit) is
 
-  -- What an orderly list asks of an output of the plain form that comes next.
+  -- What an orderly list requires of an output of the plain form that comes next.
   abbrev pub Next : List PortName → PortName → Type 0
   Next before made = IsIn (outputs_of plain) made × (IsIn (splits before) made → ⊥) × AllByRecursion (IsIn (splits before)) (needed_by plain made)
 
@@ -437,7 +437,7 @@ module _ (system : System) (ranged : IsRanged system) (kept : IsWellFormed syste
   plain_name port stands = let d = declared system port stands in
       subst (λ (p : PortName). IsPlain p.port) d.is (plain_port_names system ranged d.unit d.unit_has d.output d.has).name
 
-  -- What two ports become is the same only where they are.
+  -- What two ports become is equal only where the ports are.
   pub same_origin : (one other made : PortName) → IsPlain one.port → IsPlain other.port → (one ≡ made) ⊎ (presence_port one ≡ made)
       → (other ≡ made) ⊎ (presence_port other ≡ made) → one ≡ other
   same_origin one other made plain_one_name plain_other_name (inl is) (inl is') = is ∙ sym is'
@@ -497,7 +497,8 @@ module _ (system : System) (ranged : IsRanged system) (kept : IsWellFormed syste
         (has_flat (λ input. sources_of system (to_input input)) output.needs need wire.from need_has
         (has_source system.wires (to_input need) wire wire_has to)))
 
-    -- The source of a connection of the plain form stands in front where the outputs that the port needs do in the system.
+    -- The source of a connection of the plain form comes before, if the outputs that the port depends on do in the
+    -- system.
     source_in : (before : List PortName) (wire made : Wire) (need input : List ℕ) → AllByRecursion (IsIn before) (needed_by system port)
         → Has system.wires wire → Has output.needs need → made.to ≡ to_input input
         → (wire ≡ made) ⊎ ((is_event_output system wire.from ≡ true) × (presence_wire wire ≡ made)) → (need ≡ input) ⊎ (presence_name need ≡ input)
@@ -551,7 +552,7 @@ module _ (system : System) (ranged : IsRanged system) (kept : IsWellFormed syste
               (needed_in before from.declaring all from.stands from.needs)),
         )
 
-  -- What an output becomes, the plain form has.
+  -- The plain form has what an output becomes.
   pub made_stands : (port : PortName) → IsIn (outputs_of system) port → (made : PortName) → Has (split port) made → IsIn (outputs_of plain) made
   made_stands port stands =
       let d = declared system port stands in
@@ -606,7 +607,7 @@ module _ (system : System) (ranged : IsRanged system) (kept : IsWellFormed syste
       (subst (λ front. IsOrderlyAfter plain front (splits later)) (splits_longer before port)
       (ordered (before ++ (port ∷ [])) later (each_more (IsIn (outputs_of system)) before port outputs orderly.0) orderly.3))
 
-  -- ---- All outputs of the plain form stand there
+  -- ---- All outputs of the plain form are there
 
   pub made_has : (instance : Instance) (unit : Unit) (output : Port) (come : Comes unit output) → Has system.instances instance
       → unit_of_instance system instance ≡ Some unit

@@ -1,4 +1,4 @@
--- Positions keep words in their types, and the agreed step is at most the proposal.
+-- Positions keep words in their types, and the agreed step is at most the proposed step.
 use Rattle.std.proofs.Common.{◌≡◌, ℕ, ◌-◌, ◌≤◌, cond, Bool, true, false, ℤ, pos, List, [], ◌∷◌, map, Option, Some, None, Result, Ok, Err, refl, arith}
 use Rattle.std.proofs.lemmas.List.{length-map}
 use Rattle.std.proofs.Math.Nat.{one-le-pow}

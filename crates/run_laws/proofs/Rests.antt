@@ -48,9 +48,9 @@ words_at run [] here later ending are trace = subst (HasWords run) (sym trace.0)
 words_at run (first ∷ before) here later ending are trace =
     words_from run first before here later ending are (subst (HasWords run) (sym trace.0) (positions_keep run are).first) trace.2
 
--- ---- The rest behind a cut
+-- ---- The rest after a cut
 
--- What stands before a stand doesn't move the last point.
+-- The stands before a stand don't change the last point.
 last_behind : (before : List Stand) (here : Stand) (later : List Stand) → last_point (before ++ (here ∷ later)) ≡ last_point (here ∷ later)
 last_behind [] here later = refl
 last_behind (stand ∷ []) here later = refl

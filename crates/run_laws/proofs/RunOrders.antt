@@ -1,4 +1,4 @@
--- What is run of a system has an order of its places exactly where the system has no cycle.
+-- A system's composition has an order of its places exactly where the system has no cycle.
 use Rattle.std.proofs.Common.{◌≡◌, ◌⊎◌, ℕ, ◌==◌, inl, inr, cond, List, sym, subst}
 use Rattle.unit_tree.specs.Compositions.{composition_of}
 use Rattle.unit_tree.specs.Orders.{HasNoCycle}

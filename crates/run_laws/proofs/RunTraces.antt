@@ -17,7 +17,7 @@ use Rattle.run_laws.proofs.AssignmentLaws.{none_at, one_assignment}
 use Rattle.run_laws.proofs.PositionLaws.{positions_keep, agreed_is_at_most}
 use Rattle.run_laws.proofs.StepLaws.{proposal_is_greatest}
 
--- ---- What is left of a run, in steps
+-- ---- The rest of a run, in steps
 
 abbrev pub left_at : Composition → Point → ℕ
 left_at run point = (run.stop - point.t) * (run.zero_budget + 1) + (run.zero_budget - point.n)
@@ -68,7 +68,7 @@ next_is_nearer run stand are words within none =
     let at_most = agreed_is_at_most run stand.at stand.ports are words in
     nearer_by (h == 0) run stand.at.point h within.stop within.zeros (omega (arith, allowed, at_most)) refl open_budget
 
--- ---- Where a stand goes on to
+-- ---- The next stand
 
 pub position_by : (end : Option Ending) (position next : Position) → ends_or end position ≡ goes next → position ≡ next
 position_by None position next is = cc
@@ -155,7 +155,8 @@ module _ (run : Composition) (order : List ℕ) (are : AreMembers run) (is_order
       let one = one_rest (first_position run) (positions_keep run are).first (record { stop = omega arith; zeros = omega arith }) in
       record { stands = one.stands; ending = one.ending; is_trace = one.goes_on; is_only = one.is_only }
 
--- where what is run has one trace, the system has one list of rows, one last point, one end and one count of cells
+-- if the composition has one trace, the system has one list of rows, one last point, one ending and one count of
+-- cells
 pub one_trace_of : (system : System) → HasOneTrace (run_of system) → HasOneTraceOf system
 one_trace_of system one = record {
   rows = rows_of (run_of system) one.stands;

@@ -1,4 +1,4 @@
--- What the value of an expression looks at: the words of the names in it.
+-- The value of an expression depends only on the words of the names in it.
 use Rattle.std.proofs.Common.{◌≡◌, ℕ, Bool, true, false, List, [], ◌∷◌, ◌++◌, map, length, ℤ, pos, inl, inr, refl, ap, sym, subst, ◌∙◌, cond, ◌+◌, append_assoc}
 use Rattle.std.proofs.Common.{arith}
 use Rattle.std.specs.Prelude.{Ok, Err, not, ◌&&◌, ◌||◌}
@@ -29,7 +29,7 @@ use Rattle.language_laws.proofs.NameLaws.{same_bytes, bytes_of}
 use Rattle.list_laws.proofs.Members.{Has, has_front, has_behind}
 use Rattle.list_laws.proofs.Lists.{any_front}
 
--- Two environments show the same of some names, and their clocks are the same.
+-- Two environments give some names the same words, and their clocks are the same.
 pub record ShowSame (names : List (List ℕ)) (one other : Environment) : Type 0 where
   pub time : one.time ≡ other.time
   pub step : one.step ≡ other.step
@@ -98,7 +98,7 @@ value_same = ind-Expr Claim (λ x y is. subst (λ z. Claim (roll-Expr z)) is (no
 
 -- ---- The value of an output
 
--- Behind variables with the same words, a name has the same value where it has it in the rest.
+-- After variables with the same words, a name has the same value where it has the same in the rest.
 pub lookup_behind : (front rest : List Variable) (words ones others : List ℤ) (name : List ℕ) → length words ≡ length front
     → value_of_name rest ones name ≡ value_of_name rest others name
     → value_of_name (front ++ rest) (words ++ ones) name ≡ value_of_name (front ++ rest) (words ++ others) name

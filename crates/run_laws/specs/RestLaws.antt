@@ -1,4 +1,4 @@
--- Laws of the rest of a position: what the successor makes of it until the run ends.
+-- Laws of the rest of a position: the stands that follow it until the run ends.
 use Rattle.std.specs.Prelude.{◌≡◌, ℕ, List, ◌∷◌, ◌++◌, length}
 use Rattle.unit_tree.specs.Compositions.{Composition, AreMembers}
 use Rattle.unit_tree.specs.Ports.{IsPlaceOrder}
@@ -7,7 +7,7 @@ use Rattle.unit_tree.specs.Trace.{Stand, GoesOnFrom, IsTrace, Row, rows_of, last
 use Rattle.unit_tree.specs.declared.ending.Ending.{Ending}
 use Rattle.super_time.specs.declared.point.Point.{Point}
 
--- From each stand of a trace its later stands go on, and its number is its place.
+-- From each stand of a trace the later stands go on, and the number of its row is its place in the trace.
 pub record IsTail (run : Composition) (before : List Stand) (here : Stand) (later : List Stand) (ending : Ending) : Type 0 where
   pub goes_on : GoesOnFrom run here.at (here ∷ later) ending
   pub number : here.at.number ≡ length before
@@ -16,7 +16,7 @@ abbrev pub TailsGoOn : Type 0
 TailsGoOn = (run : Composition) (before : List Stand) (here : Stand) (later : List Stand) (ending : Ending) → IsTrace run (before ++ (here ∷ later)) ending
     → IsTail run before here later ending
 
--- A position with words, within the stop and the budget of steps of length zero, has exactly one rest, where the places have an order.
+-- A position with words, within the stop and the zero budget, has exactly one rest, if the places have an order.
 pub record HasOneRest (run : Composition) (at : Position) : Type 0 where
   pub stands : List Stand
   pub ending : Ending
@@ -27,8 +27,8 @@ abbrev pub PositionsHaveOneRest : Type 0
 PositionsHaveOneRest = (run : Composition) (order : List ℕ) (at : Position) → AreMembers run → IsPlaceOrder run order → HasWords run at → IsInBounds run at
     → HasOneRest run at
 
--- A trace ends with the rest of a position of it: its rows are those of the stands before the position, and behind them the rows
--- of the rest; its last point and its end are those of the rest.
+-- A trace ends with the rest of each of its positions. Its rows are those of the stands before the position, followed
+-- by the rows of the rest. Its last point and its ending are those of the rest.
 pub record EndsWithRest (run : Composition) (before : List Stand) (stands : List Stand) (ending : Ending) (rows : List Row) (last : Point) (end : Ending)
     : Type 0 where
   pub rows_are : rows_of run stands ≡ rows_of run before ++ rows

@@ -21,7 +21,7 @@ use Rattle.unit_tree.specs.declared.system.System.{System}
 use Rattle.unit_tree.specs.declared.unit.Input.{Input}
 use Rattle.unit_tree.specs.declared.unit.Output.{Output}
 
--- A composition whose places have an order has exactly one port assignment for states, of which each member has one.
+-- A composition whose places have an order has exactly one port assignment for states, if each member has a state.
 pub record HasOneAssignment (run : Composition) (states : List (List ℤ)) : Type 0 where
   pub ports : Ports
   pub is_assignment : IsAssignment run states ports
@@ -39,21 +39,21 @@ UndefinedOutputsFault =
 
 -- ---- Outputs
 
--- Words of inputs, one each, that are the same where an output needs them.
+-- Words of inputs, one each, that are equal at the inputs that an output needs.
 abbrev pub AgreeOn : List (List ℕ) → List Input → List ℤ → List ℤ → Type 0
 AgreeOn needs [] [] [] = ⊤
 AgreeOn needs (input ∷ inputs) (one ∷ ones) (other ∷ others) = (is_among needs input.name ≡ true → one ≡ other) × AgreeOn needs inputs ones others
 AgreeOn needs _ _ _ = ⊥
 
--- What get gives of an output that uses no other inputs than those in its needs, as the outputs of a well-formed
--- system do, depends on these alone.
+-- The result of get for an output depends only on the inputs in its needs, if the output uses no other inputs. The
+-- outputs of a well-formed system don't.
 abbrev pub OutputsLookAtNeeds : Type 0
 OutputsLookAtNeeds =
     (component : Component) (state one other : List ℤ) (output : Output) → length component.params ≡ length component.unit.params
     → length state ≡ length component.unit.states → AgreeOn output.needs component.unit.inputs one other
     → uses_other_input component.unit output.needs output.value ≡ false → get_of component state one output ≡ get_of component state other output
 
--- What get gives is a word of the output's type, or a fault.
+-- The result of get is a word of the output's type, or a fault.
 abbrev pub OutputsAreWords : Type 0
 OutputsAreWords =
     (component : Component) (state inputs : List ℤ) (output : Output) (word : ℤ) → get_of component state inputs output ≡ Ok word
@@ -61,7 +61,7 @@ OutputsAreWords =
 
 -- ---- Steps
 
--- What the length of a step keeps to.
+-- The conditions on the length of a step.
 pub record IsAllowed (stop longest t : ℕ) (limits : List ℕ) (h : ℕ) : Type 0 where
   pub within_stop : h ≤ stop - t
   pub within_longest : h ≤ longest
@@ -71,7 +71,7 @@ pub record IsGreatest (P : ℕ → Type 0) (greatest : ℕ) : Type 0 where
   pub holds : P greatest
   pub is_greatest : (h : ℕ) → P h → h ≤ greatest
 
--- The proposal is the greatest length that the stop, `longest` and every limit allow.
+-- The proposed step is the greatest length that the stop, `longest` and every limit allow.
 abbrev pub ProposalsAreGreatest : Type 0
 ProposalsAreGreatest = (stop longest t : ℕ) (limits : List ℕ) → IsGreatest (IsAllowed stop longest t limits) (proposal_of stop longest t limits)
 
@@ -89,7 +89,7 @@ AgreedStepsAreLeast = (h first : ℕ) (others : List ℕ) → IsLeastOf (first �
 
 -- ---- Words
 
--- A step keeps one word for each state, of its type, and accepts at most its whole length.
+-- A step leaves one word for each state, of its type, and accepts at most its whole length.
 pub record KeepsWords (component : Component) (step : ℕ) (moved : Moved) : Type 0 where
   pub words : AreWordsOf component.unit.states moved.state
   pub accepted : moved.accepted ≤ step
@@ -103,7 +103,7 @@ StepsKeepWords =
 abbrev pub SystemsHaveMembers : Type 0
 SystemsHaveMembers = (system : System) → AreMembers (composition_of system)
 
--- A run starts with words of their types, and keeps them from a position to the next.
+-- A run starts with words of their types, and keeps them from each position to the next.
 pub record PositionsKeepWords (run : Composition) : Type 0 where
   pub first : HasWords run (first_position run)
   pub next : (at : Position) (ports : Ports) → HasWords run at → HasWords run (after run at ports)
@@ -111,8 +111,8 @@ pub record PositionsKeepWords (run : Composition) : Type 0 where
 abbrev pub RunsKeepWords : Type 0
 RunsKeepWords = (run : Composition) → AreMembers run → PositionsKeepWords run
 
--- A step that a run makes leads to the position after the agreed step, and keeps words, with them the bounds on time, and the
--- one on rows.
+-- A step that a run makes leads to the position after the agreed step. That position has words, and is within the
+-- bounds on time and on rows.
 pub record IsRightStep (run : Composition) (one next : Stand) : Type 0 where
   pub agreed : next.at ≡ after run one.at one.ports
   pub words : HasWords run one.at → HasWords run next.at
@@ -122,8 +122,8 @@ pub record IsRightStep (run : Composition) (one next : Stand) : Type 0 where
 abbrev pub StepsOfRunsAreRight : Type 0
 StepsOfRunsAreRight = (run : Composition) (one next : Stand) → AreMembers run → Goes run one next → IsRightStep run one next
 
--- Each stand of a trace has its words, and is within the stop and the zero budget; where there may be a row, it is within the
--- row budget too.
+-- Each stand of a trace has its words, and is within the stop and the zero budget. Where there may be a row, it is
+-- within the row budget too.
 pub record HasRightStands (run : Composition) (stands : List Stand) : Type 0 where
   pub words : AllByRecursion (λ stand. HasWords run stand.at) stands
   pub bounds : AllByRecursion (λ stand. IsInBounds run stand.at) stands
@@ -132,13 +132,13 @@ pub record HasRightStands (run : Composition) (stands : List Stand) : Type 0 whe
 abbrev pub StandsOfTracesAreRight : Type 0
 StandsOfTracesAreRight = (run : Composition) (stands : List Stand) (ending : Ending) → AreMembers run → IsTrace run stands ending → HasRightStands run stands
 
--- The agreed step is at most the proposal.
+-- The agreed step is at most the proposed step.
 abbrev pub AgreedStepsAreAtMost : Type 0
 AgreedStepsAreAtMost = (run : Composition) (at : Position) (ports : Ports) → AreMembers run → HasWords run at → agreed run at ports ≤ proposed run at ports
 
--- ---- Ends
+-- ---- Endings
 
--- How the run goes on from a stand at which it does not end before its trial.
+-- How a run goes on from a stand where it does not end before its trial.
 pub record EndsInOrder (run : Composition) (stand : Stand) : Type 0 where
   pub trial_ends : (ending : Ending) → trial_end run stand.at stand.ports ≡ Some ending → successor run stand.at stand.ports ≡ ends ending
   pub redo_ends : (ending : Ending) → trial_end run stand.at stand.ports ≡ None → is_redone run stand.at stand.ports ≡ true
@@ -151,7 +151,7 @@ pub record EndsInOrder (run : Composition) (stand : Stand) : Type 0 where
       → redo_end_by run stand.at stand.ports (agreed run stand.at stand.ports) ≡ None → zero_end run stand.at stand.ports ≡ None
       → successor run stand.at stand.ports ≡ goes (after run stand.at stand.ports)
 
--- How it ends at a stand before a trial.
+-- How a run ends at a stand before a trial.
 pub record FirstEndsInOrder (run : Composition) (stand : Stand) : Type 0 where
   pub port_ends : (ending : Ending) → port_fault run stand.at.states stand.ports ≡ Some ending → successor run stand.at stand.ports ≡ ends ending
   pub stop_ends : (ending : Ending) → port_fault run stand.at.states stand.ports ≡ None → stop_end run stand.at ≡ Some ending
@@ -169,7 +169,7 @@ EndsAreJudgedInOrder = (run : Composition) (stand : Stand) → IsGoing run stand
 
 -- ---- Traces
 
--- There is one trace, with one end, and no other.
+-- There is exactly one trace, with one ending.
 pub record HasOneTrace (run : Composition) : Type 0 where
   pub stands : List Stand
   pub ending : Ending
@@ -183,8 +183,8 @@ OrderedRunsHaveOneTrace = (run : Composition) (order : List ℕ) → AreMembers 
 abbrev pub PlainFormsHaveNoEvents : Type 0
 PlainFormsHaveNoEvents = (system : System) → IsRanged system → HasNoEvents (plain_form system)
 
--- A system that is well-formed has no cycle exactly where its composition has an order of its places. It is told of
--- systems without event ports.
+-- A system without event ports that is well-formed has no cycle exactly where its composition has an order of its
+-- places.
 abbrev pub SystemsHavePlaceOrders : Type 0
 SystemsHavePlaceOrders =
     (system : System) → HasNoEvents system → IsWellFormed system → HasNoCycle system ↔ ((order : List ℕ) × IsPlaceOrder (composition_of system) order)
@@ -193,8 +193,8 @@ SystemsHavePlaceOrders =
 abbrev pub SystemsHaveOneTrace : Type 0
 SystemsHaveOneTrace = (system : System) → HasNoEvents system → IsWellFormed system → HasNoCycle system → HasOneTrace (composition_of system)
 
--- A system in range that is well-formed has no cycle exactly where what is run of it has an order of its places; and then this
--- has exactly one trace.
+-- A system in range that is well-formed has no cycle exactly where its composition has an order of its places. The
+-- composition then has exactly one trace.
 abbrev pub RunsHavePlaceOrders : Type 0
 RunsHavePlaceOrders =
     (system : System) → IsRanged system → IsWellFormed system → HasNoCycle system ↔ ((order : List ℕ) × IsPlaceOrder (run_of system) order)
@@ -202,7 +202,7 @@ RunsHavePlaceOrders =
 abbrev pub RunsHaveOneTrace : Type 0
 RunsHaveOneTrace = (system : System) → IsRanged system → IsWellFormed system → HasNoCycle system → HasOneTrace (run_of system)
 
--- There is one list of rows, one last point and one end of the system, and one count of its cells, and no other.
+-- The system has exactly one list of rows, one last point, one ending and one count of cells.
 pub record HasOneTraceOf (system : System) : Type 0 where
   pub rows : List Row
   pub last : Point
@@ -213,6 +213,6 @@ pub record HasOneTraceOf (system : System) : Type 0 where
   pub has_cells : HasCells system cells
   pub is_only_count : (other : ℕ) → HasCells system other → other ≡ cells
 
--- A system in range that is well-formed and has no cycle has them.
+-- A system in range that is well-formed and has no cycle has exactly one of each.
 abbrev pub SystemsHaveOneOutcome : Type 0
 SystemsHaveOneOutcome = (system : System) → IsRanged system → IsWellFormed system → HasNoCycle system → HasOneTraceOf system

@@ -1,4 +1,4 @@
--- The rules of groups, judged one after the other.
+-- The rules of groups, judged in turn.
 use Rattle.std.proofs.Common.{◌≡◌, ◌≤◌, ◌<◌, ℕ, ◌+◌, Bool, true, false, List, length, inl, inr, Option, Some, None, Result, Ok, Err, IsTrue, refl, sym, ap, subst, ◌∙◌, arith, get_or}
 use Rattle.std.specs.Prelude.{◌⊎◌, ◌↔◌, if◌then◌else◌, slice_get, ⊤}
 use Rattle.std.proofs.lemmas.Bool.Decides.{nat_tests}

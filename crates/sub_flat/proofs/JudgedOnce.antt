@@ -1,4 +1,5 @@
--- Every nest breaks no rule or is refused: each rule can be told of each group, so that there is a least line.
+-- Every nest breaks no rule or is refused: each rule can be decided for each group, so that there is a least
+-- line.
 use Rattle.std.proofs.Common.{◌≡◌, ◌≤◌, ◌<◌, ℕ, zero, suc, ◌+◌, Bool, true, false, List, [], ◌∷◌, ◌++◌, length, map, inl, inr, Option, Some, None, refl, sym, ap, subst, arith, get_or, length-append}
 use Rattle.std.specs.Prelude.{◌⊎◌, nat_le, slice_get}
 use Rattle.std.specs.List.{list_all}
@@ -25,7 +26,7 @@ use Rattle.sub_flat.proofs.JudgeLaws.{AtBefore, at_none, kept_rules, least_begin
 use Rattle.sub_flat.proofs.NestingLaws.{less_or_more, places_within}
 use Rattle.sub_flat.proofs.SearchLaws.{SearchedSoFar, finds_more, finds_none, note_new, note_old, same_or_not, search_begin, search_found, search_next, search_none}
 
--- It holds, or it doesn't.
+-- A proposition is true, or it isn't.
 abbrev Told : Type 0 → Type 0
 Told A = A ⊎ (A → ⊥)
 
@@ -110,7 +111,7 @@ search_ends : (inner : ℕ → List ℕ) (start count : ℕ) (seen : List Bool) 
     → Told (LeadsBack inner start)
 search_ends inner start count seen pending so_far is = inr (λ back. search_none inner start count seen pending so_far is back.0 back.1)
 
--- One group is looked at, and then the rest.
+-- One group is visited, and then the rest.
 search_on : (inner : ℕ → List ℕ) (start count : ℕ) → ((place other : ℕ) → IsAmong (inner place) other → other < count) → (fuel : ℕ)
     → ((seen : List Bool) (pending : List ℕ) → SearchedSoFar inner start count seen pending → work_left seen pending ≤ fuel → Told (LeadsBack inner start))
     → (seen : List Bool) (pending : List ℕ) → SearchedSoFar inner start count seen pending → work_left seen pending ≤ suc fuel → Last pending

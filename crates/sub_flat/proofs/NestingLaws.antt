@@ -119,7 +119,7 @@ falls_along lists levels falling (suc count) from to (between, first, rest) =
     let more = falls_along lists levels falling count between to rest in
     omega (arith, one, more)
 
--- A group that has none on its own level inside doesn't lead back to itself.
+-- A group that has none on its own level inside doesn't contain itself.
 pub no_way_back : (lists : List (List ℕ)) (levels : List ℕ) (place : ℕ) → AreFalling lists levels
     → list_any (λ other. level_at levels other == level_at levels place) (inside_of lists place) ≡ false → LeadsBack (inside_of lists) place → ⊥
 no_way_back lists levels place falling none (count, leads) = by count leads
@@ -166,7 +166,7 @@ level_sure lists levels place own inner told falling is level judged never =
     (sym (ap (λ most. list_any (λ other. level_at levels other == most) inner) level ∙ ap (list_any (λ other. level_at levels other == level_at levels place)) is)
     ∙ sym judged ∙ never)
 
--- ---- Groups in doubt
+-- ---- Doubtful groups
 
 pub sure_begin : (lists : List (List ℕ)) → AreSure lists []
 sure_begin lists place sure back = absurd (cc)

@@ -1,4 +1,4 @@
--- What is put behind others within a limit, one after the other.
+-- Elements that are appended within a limit, one after the other.
 use Rattle.std.proofs.Common.{◌≡◌, ◌≤◌, ◌<◌, ℕ, zero, suc, ◌+◌, List, [], ◌∷◌, ◌++◌, length, map, drop, get_or, refl, sym, ap, ◌∙◌, arith, length-append, append_assoc, append-nil}
 use Rattle.std.specs.List.{flat_map}
 use Rattle.std.proofs.lemmas.List.{at_drop_more, drop_all}
@@ -9,7 +9,7 @@ use Rattle.nest_names.specs.declared.scope.Scope.{Scope}
 use Rattle.sub_flat.specs.declared.fault.Unflat.{Unflat}
 use Rattle.sub_flat.specs.declared.fault.Unflat.TheVariants as unflat
 
--- What was put, and what the rest gives, is all.
+-- The elements that were added, and those that the rest gives, are all.
 abbrev pub PutSoFar : {A : Type 0} → ℕ → List A → List A → List A → List A → Type 0
 PutSoFar limit old now rest all = (now ++ rest ≡ old ++ all) × (length now ≤ limit)
 
@@ -43,7 +43,7 @@ put_failed f limit old now all items place item unflat.TooLarge within is so_far
     let right = length-append old all in
     omega (arith, whole, left, behind, right, over)
 
--- Parts that are put one after the other.
+-- Parts that are appended in turn.
 pub put_more_failed : {A : Type 0} (limit : ℕ) (old more all rest : List A) (why : Unflat) → all ≡ more ++ rest
     → PutsOver limit old more why → PutsOver limit old all why
 put_more_failed limit old more all rest unflat.NoMemory is over = tt
@@ -66,7 +66,7 @@ put_end f limit old now all all' items place past so_far is = (
   so_far.1,
 )
 
--- What is too much behind others is too much behind those before them.
+-- What is too much after a list is too much after any prefix of it.
 pub put_behind_failed : {A : Type 0} (limit : ℕ) (old middle more rest : List A) (why : Unflat) → middle ≡ old ++ more → PutsOver limit middle rest why
     → PutsOver limit old (more ++ rest) why
 put_behind_failed limit old middle more rest unflat.NoMemory is over = tt

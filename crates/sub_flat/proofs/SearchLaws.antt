@@ -39,13 +39,13 @@ among_at [] place within = absurd (omega (arith, within))
 among_at (x ∷ xs) zero within = inl refl
 among_at (x ∷ xs) (suc place) within = inr (among_at xs place (omega (arith, within)))
 
--- ---- Ways
+-- ---- Paths
 
 leads_on : (inner : ℕ → List ℕ) (count from between to : ℕ) → Leads inner count from between → IsAmong (inner between) to → Leads inner (suc count) from to
 leads_on inner zero from between to first last = (between, first, last)
 leads_on inner (suc count) from between to (next, first, rest) last = (next, first, leads_on inner count next between to rest last)
 
--- The group is the one that is looked for, or is led to from it.
+-- The group is the searched one, or is contained in it.
 abbrev pub IsReached : (ℕ → List ℕ) → ℕ → ℕ → Type 0
 IsReached inner start place = (place ≡ start) ⊎ ((count : ℕ) × Leads inner count start place)
 
@@ -55,7 +55,7 @@ reached_on inner start from to (inr (count, leads)) last = (suc count, leads_on 
 
 -- ---- The search
 
--- A group doesn't lead to the one that is looked for, and all that it leads to were found.
+-- A group doesn't contain the searched one, and all groups inside it were found.
 abbrev pub IsClosed : (ℕ → List ℕ) → ℕ → List Bool → ℕ → Type 0
 IsClosed inner start seen place = (other : ℕ) → IsAmong (inner place) other → (other ≡ start → ⊥) × IsSeen seen other
 
@@ -144,7 +144,7 @@ pub search_none : (inner : ℕ → List ℕ) (start count : ℕ) (seen : List Bo
 search_none inner start count seen pending so_far none length leads =
     no_way inner start count seen (subst (SearchedSoFar inner start count seen) none so_far) length start (inl refl) leads
 
--- What was told of the groups inside one is what the search needs.
+-- The result for the groups inside one is what the search needs.
 pub search_told : (inner : ℕ → List ℕ) (start count from : ℕ) (seen seen' : List Bool) (pending front pending' here : List ℕ) (told : Bool)
     → SearchedSoFar inner start count seen pending → pending ≡ front ++ (from ∷ []) → here ≡ inner from → told ≡ true
     → Spreads here start seen seen' front pending' told → LeadsBack inner start
@@ -169,7 +169,7 @@ pub none_left : (places : List ℕ) → length places ≡ 0 → places ≡ []
 none_left [] none = refl
 none_left (place ∷ places) none = absurd (omega (arith, none))
 
--- ---- Groups that are found one after the other
+-- ---- Groups that are found in turn
 
 pub finds_none : (seen : List Bool) (pending : List ℕ) → Finds [] seen seen pending pending
 finds_none seen pending = record {
@@ -214,7 +214,7 @@ finds_more done more seen middle seen' pending between pending' was is = record 
     from_by other (inl among) = before other (was.from other among)
     from_by other (inr among) = inr (among_right done more other among)
 
--- ---- A group that is found anew
+-- ---- A group that is found for the first time
 
 pub same_or_not : (x y : ℕ) → (x ≡ y) ⊎ (x ≡ y → ⊥)
 same_or_not zero zero = inl refl
@@ -226,7 +226,7 @@ same_or_not (suc x) (suc y) = more (same_or_not x y)
     more (inl same) = inl (ap suc same)
     more (inr apart) = inr (λ same. apart (omega (arith, same)))
 
--- What one group more adds to how many weren't found.
+-- How one more group changes the number of those that weren't found.
 abbrev unseen_one : Bool → ℕ
 unseen_one one = cond (not one) 1 0
 
@@ -286,9 +286,9 @@ note_new seen place pending pending' within unseen is = record {
     new_by other seen_it (inl same) = inr (subst (λ all. IsAmong all other) (sym is) (among_right pending (place ∷ []) other (inl (sym same))))
     new_by other seen_it (inr apart) = inl (sym (get_or-set_other seen place other true false apart) ∙ seen_it)
 
--- ---- The groups that a group leads to
+-- ---- The groups inside a group
 
--- So far none is the one that is looked for, and all were found.
+-- So far none is the searched group, and all were found.
 pub record SpreadSoFar (all left : List ℕ) (wanted : ℕ) (seen seen' : List Bool) (pending pending' : List ℕ) : Type 0 where
   pub done : List ℕ
   pub cut : all ≡ done ++ left

@@ -5,11 +5,11 @@ use Rattle.unit_tree.specs.Ports.{IsAmong}
 use Rattle.nest_text.specs.declared.nest.Nest.{Nest}
 use Rattle.nest_names.specs.Flattening.{group_place, instances_of}
 
--- The places of the groups that the instances of a group are of.
+-- The places of the groups of a group's instances.
 abbrev pub inner_places : Nest → ℕ → List ℕ
 inner_places nest place = filter_map (λ instance. group_place nest instance.unit) (instances_of nest (Some place))
 
--- A group leads to another through so many groups between them.
+-- A group contains another through this many groups between them.
 abbrev pub Leads : (ℕ → List ℕ) → ℕ → ℕ → ℕ → Type 0
 Leads inner zero from to = IsAmong (inner from) to
 Leads inner (suc count) from to = (between : ℕ) × IsAmong (inner from) between × Leads inner count between to

@@ -1,4 +1,4 @@
--- How flattening goes about it: early ends, and answers.
+-- How flattening works: early ends, and results.
 use Rattle.std.specs.Prelude.{◌≡◌, ◌⊎◌, ◌≤◌, ◌<◌, ℕ, zero, suc, ◌+◌, Bool, true, nat_lt, IsTrue, List, [], ◌∷◌, ◌++◌, length, Option, Some, None, Result, Ok, Err, ⊤}
 use Rattle.std.specs.Option.{option_map, unwrap_or}
 use Rattle.model_rules.specs.Numbers.{number_of}
@@ -23,7 +23,7 @@ use Rattle.sub_flat.specs.declared.judge.GroupRule.{GroupRule}
 use Rattle.sub_flat.specs.declared.judge.GroupRule.TheVariants as rules
 use Rattle.nest_text.specs.declared.nest.Nest.{Nest}
 
--- More are put behind what was there, which stay within a limit; or there are too many.
+-- More elements are appended, and the list stays within a limit; or there are too many.
 abbrev pub PutsOver : {A : Type 0} → ℕ → List A → List A → Unflat → Type 0
 PutsOver limit old more unflat.TooLarge = limit < length old + length more
 PutsOver limit old more unflat.NoMemory = ⊤
@@ -41,13 +41,13 @@ abbrev pub MadeWithin : {A : Type 0} → ℕ → List A → Result (List A) Unfl
 MadeWithin limit all (Ok made) = (made ≡ all) × (length made ≤ limit)
 MadeWithin limit all (Err why) = MadeOver limit all why
 
--- The system, or that it isn't printable.
+-- The system, which is printable, or that it isn't.
 abbrev pub IsKeptPrintable : System → Result System Unflat → Type 0
 IsKeptPrintable system (Ok kept) = (kept ≡ system) × IsPrintable system
 IsKeptPrintable system (Err unflat.TooLarge) = IsPrintable system → ⊥
 IsKeptPrintable system (Err unflat.NoMemory) = ⊤
 
--- The components that an instance of a scope stands for.
+-- The components of the flat system that an instance of a scope becomes.
 abbrev pub leaves_inside : Nest → ℕ → Scope → Instance → List Instance
 leaves_inside nest zero scope instance = named_in scope instance ∷ []
 leaves_inside nest (suc depth) scope instance =
@@ -61,7 +61,7 @@ wires_inside nest (suc depth) scope instance = unwrap_or (option_map (flat_wires
 abbrev pub wire_between : Spot → Spot → Wire
 wire_between from to = record { from = flat_port from; to = flat_port to }
 
--- The components of the flat system, which are no more than there may be; or that it is too large.
+-- The components of the flat system, which are at most 64; or that it is too large.
 abbrev pub MakesLeaves : Nest → Result (List Instance) Unflat → Type 0
 MakesLeaves nest (Ok made) = (made ≡ leaves nest levels top) × (length made ≤ instance_limit)
 MakesLeaves nest (Err unflat.TooLarge) = IsTooLarge nest
@@ -71,13 +71,13 @@ MakesLeaves nest (Err unflat.NoMemory) = ⊤
 abbrev pub with_parts : System → FlatParts → System
 with_parts main parts = record main { instances = parts.instances; wires = parts.wires; samples = parts.samples }
 
--- The parts of the flat system, which are no more than there may be; or that it is too large.
+-- The parts of the flat system, with at most 64 instances and 2,048 connections; or that it is too large.
 abbrev pub MakesParts : Nest → Result FlatParts Unflat → Type 0
 MakesParts nest (Ok parts) = (with_parts nest.main parts ≡ flat_of nest) × (length parts.instances ≤ instance_limit) × (length parts.wires ≤ connection_limit)
 MakesParts nest (Err unflat.TooLarge) = IsTooLarge nest
 MakesParts nest (Err unflat.NoMemory) = ⊤
 
--- The least line at which something holds, or that it holds at none.
+-- The least line at which a property holds, or that it holds at none.
 abbrev pub IsLeast : (ℕ → Type 0) → Option ℕ → Type 0
 IsLeast HoldsAt None = (line : ℕ) → HoldsAt line → ⊥
 IsLeast HoldsAt (Some line) = HoldsAt line × ((other : ℕ) → HoldsAt other → line ≤ other)
@@ -95,7 +95,7 @@ rule_of rules.Ports = all.GroupPortsAreThere
 abbrev pub rule_number : GroupRule → ℕ
 rule_number some = number_of (rule_of some)
 
--- What breaks a rule holds at no line, or the least is told with the rule.
+-- A refusal by a rule, at the least line that breaks it.
 abbrev pub RefusesLeast : (ℕ → Type 0) → ℕ → NestFault → Type 0
 RefusesLeast BreaksAt number (fault.Line line rule) = (rule ≡ number) × IsLeast BreaksAt (Some line)
 RefusesLeast BreaksAt number fault.NoMemory = ⊤
@@ -104,13 +104,13 @@ abbrev pub JudgesLeast : {X : Type 0} → (ℕ → Type 0) → ℕ → Result X 
 JudgesLeast BreaksAt number (Ok kept) = IsLeast BreaksAt None
 JudgesLeast BreaksAt number (Err why) = RefusesLeast BreaksAt number why
 
--- The refusal at a line, where there is one.
+-- The refusal at a line, if there is one.
 abbrev pub Refuses : {X : Type 0} → ℕ → Option ℕ → Result X NestFault → Type 0
 Refuses number least (Ok kept) = least ≡ None
 Refuses number least (Err (fault.Line line rule)) = (rule ≡ number) × (least ≡ Some line)
 Refuses number least (Err fault.NoMemory) = ⊥
 
--- The line of a group, or of `main`, at which a port isn't there.
+-- The line of a group, or of `main`, where a port doesn't exist.
 abbrev pub MissesAt : Nest → ℕ → Type 0
 MissesAt nest line = AtGroup nest rules.Ports line ⊎ (IsTrue (main_misses_port nest) × (line ≡ nest.main_line))
 
@@ -119,7 +119,7 @@ abbrev pub refusal_of : ℕ → Unflat → NestFault
 refusal_of main_line unflat.TooLarge = fault.Line main_line 30
 refusal_of main_line unflat.NoMemory = fault.NoMemory
 
--- The nest breaks no rule of groups, or is refused by the least.
+-- A refusal names the least rule of groups that the nest breaks, at the least line.
 abbrev pub IsRefusedBy : Nest → NestFault → Type 0
 IsRefusedBy nest (fault.Line line rule) = IsRefusedNest nest line rule
 IsRefusedBy nest fault.NoMemory = ⊤
@@ -128,13 +128,14 @@ abbrev pub JudgesNest : {X : Type 0} → Nest → Result X NestFault → Type 0
 JudgesNest nest (Ok kept) = (line rule : ℕ) → BreaksNest nest line rule → rule ≡ 30
 JudgesNest nest (Err why) = IsRefusedBy nest why
 
--- The parts of the flat system of a nest that breaks none of the rules 27 to 29, and is not too large for its parts; or what it breaks.
+-- The parts of the flat system of a nest that breaks none of the rules 27 to 29, and whose parts are not too many; or
+-- the rule that it breaks.
 abbrev pub JudgesParts : Nest → Result FlatParts NestFault → Type 0
 JudgesParts nest (Ok parts) = MakesParts nest (Ok parts) × ((line rule : ℕ) → BreaksNest nest line rule → rule ≡ 30)
 JudgesParts nest (Err why) = IsRefusedBy nest why
 
--- The answer of flattening: the flat system of a nest that breaks no rule, or the least rule that it breaks, at the least line. Want of
--- memory says nothing.
+-- The result of flattening: the flat system of a nest that breaks no rule, or the least rule that it breaks, at the
+-- least line. Without memory nothing is stated.
 abbrev pub AnswersFlat : Nest → Result System NestFault → Type 0
 AnswersFlat nest (Ok flat) = (flat ≡ flat_of nest) × ((line rule : ℕ) → BreaksNest nest line rule → ⊥)
 AnswersFlat nest (Err why) = IsRefusedBy nest why

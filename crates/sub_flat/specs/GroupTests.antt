@@ -1,4 +1,4 @@
--- What the rules ask of groups.
+-- The tests of groups that the rules make.
 use Rattle.std.specs.Prelude.{ℕ, Bool, false, not, ◌&&◌, ◌||◌, List, map, is_none}
 use Rattle.std.specs.List.{list_any}
 use Rattle.std.specs.Option.{option_map, unwrap_or}
@@ -25,11 +25,12 @@ is_misnamed nest group = has_wrong_name nest group || is_empty group.instances
 
 -- ---- Ports
 
--- Whether the port of an instance is there, by whether its unit has it.
+-- Whether the port of an instance exists; `has` is whether its unit has it.
 abbrev pub is_there : (List ℕ → List ℕ → Bool) → List Instance → PortName → Bool
 is_there has instances port = unwrap_or (option_map (λ instance. has instance.unit port.port) (instance_among instances port.instance)) false
 
--- An end at a group isn't there. Ends at components, and at instances that aren't there, are left to the rules of the flat system.
+-- The end of a connection at a group doesn't exist. Ends at components, and at instances that don't exist, are judged
+-- by the rules of the flat system.
 abbrev pub misses_group : Nest → (List ℕ → List ℕ → Bool) → PortName → Instance → Bool
 misses_group nest has port instance = not (is_none (group_place nest instance.unit)) && not (has instance.unit port.port)
 
@@ -56,9 +57,9 @@ main_misses_port nest =
     list_any (wire_misses nest nest.main.instances) nest.main.wires
     || (list_any (misses nest (has_output nest) nest.main.instances) nest.main.samples || list_any (sets_group nest) nest.main.instances)
 
--- ---- How it is asked
+-- ---- In the form of the code
 
--- Inputs or outputs that a unit or group has.
+-- The inputs or the outputs of a unit or group.
 abbrev pub has_side : Nest → Side → List ℕ → List ℕ → Bool
 has_side nest sides.Input = has_input nest
 has_side nest sides.Output = has_output nest

@@ -1,8 +1,8 @@
--- Which nests have no flat system, and at which line and by which rule.
+-- Which nests have no flat system, and at which line and by which rule they are refused.
 --
 --   rule 27   a group has the name of another group or of a unit, or has no instance
 --   rule 28   a group contains itself
---   rule 29   a port of a group isn't there, an `out` name stands twice, or a group has settings
+--   rule 29   a port of a group doesn't exist, the name of an `out` line occurs twice, or a group has settings
 --   rule 30   the flat system is too large
 use Rattle.std.specs.Prelude.{◌≡◌, ◌⊎◌, ◌≤◌, ◌<◌, ℕ, length, Some, IsTrue, slice_get}
 use Rattle.model_rules.specs.Limits.{connection_limit, instance_limit}
@@ -17,8 +17,8 @@ use Rattle.nest_text.specs.declared.nest.Nest.{Nest}
 
 -- ---- Size
 
--- The flat system has more instances or connections than there may be, or no canonical text that is read back, as where a name is too
--- long.
+-- The flat system has more instances or connections than allowed, or has no canonical text that is read back, for
+-- example because a name is too long.
 abbrev pub IsTooLarge : Nest → Type 0
 IsTooLarge nest = (instance_limit < length (flat_of nest).instances) ⊎ (connection_limit < length (flat_of nest).wires) ⊎ (IsPrintable (flat_of nest) → ⊥)
 

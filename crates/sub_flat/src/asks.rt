@@ -1,4 +1,4 @@
-//! What the rules ask of groups.
+//! The tests of groups that the rules make.
 ghost use Rattle.std.specs.Prelude.{◌≡◌};
 ghost use Rattle.std.specs.List.{list_any};
 ghost use Rattle.sub_flat.specs.declared.asks.Side.TheVariants as sides;
@@ -8,7 +8,7 @@ use nest_names::{GroupNames, InstanceNames, NestNames};
 use nest_text::Bind;
 use unit_tree::{Instance, PortName, Wire};
 
-/// Which ports are asked for.
+/// Which ports are searched.
 #[derive(Clone, Copy, PartialEq, Eq)]
 pub enum Side {
     Input,
@@ -25,7 +25,7 @@ fn has_port(names: &NestNames<'_>, side: Side, unit: &[u8], port: &[u8]) -> bool
     }
 }
 
-/// Whether a group has the name of another, or of a unit.
+/// Whether a group has the name of another group, or of a unit.
 fn has_wrong_name(names: &NestNames<'_>, group: &GroupNames<'_>) -> bool
     ensures { result ≡ has_wrong_name names.now group.now }
 {
@@ -39,7 +39,7 @@ pub(crate) fn is_misnamed(names: &NestNames<'_>, group: &GroupNames<'_>) -> bool
     has_wrong_name(names, group) || group.group().instances.is_empty()
 }
 
-/// Whether the inner port of a line isn't there.
+/// Whether the inner port of a line doesn't exist.
 fn misbinds(names: &NestNames<'_>, side: Side, instances: &InstanceNames<'_>, bind: &Bind) -> bool
     ensures { result ≡ misbinds (has_side names.now side) instances.now bind.now }
 {
@@ -54,7 +54,7 @@ fn misbinds(names: &NestNames<'_>, side: Side, instances: &InstanceNames<'_>, bi
     }
 }
 
-/// Whether an end at a group isn't there.
+/// Whether an end of a connection at a group doesn't exist.
 fn misses(names: &NestNames<'_>, side: Side, instances: &InstanceNames<'_>, port: &PortName) -> bool
     ensures { result ≡ misses names.now (has_side names.now side) instances.now port.now }
 {
@@ -127,7 +127,7 @@ fn any_sets_group(names: &NestNames<'_>, instances: &[Instance]) -> bool
     instances.iter().any(|instance| sets_group(names, instance))
 }
 
-/// Whether `main` asks for a port that isn't there, or sets a group.
+/// Whether `main` uses a port of a group that doesn't exist, or has settings for a group.
 pub(crate) fn main_misses_port(names: &NestNames<'_>) -> bool
     ensures { result ≡ main_misses_port names.now }
 {

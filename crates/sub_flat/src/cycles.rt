@@ -29,7 +29,7 @@ fn put_place(place: Option<usize>, inner: &mut Vec<usize>) -> Result<(), NoMemor
     Ok(())
 }
 
-/// The places of the groups that the instances of a group are of.
+/// The places of the groups of a group's instances.
 fn inner_places(alloc: Global, names: &NestNames<'_>, place: usize) -> Result<Vec<usize>, NoMemory>
     ensures { IfOk result (λ inner. inner.items ≡ inner_places names.now place) }
 {
@@ -64,7 +64,7 @@ fn inside(inner: &[Vec<usize>], place: usize) -> &[usize]
     }
 }
 
-/// Whether no group in a list is on a higher level than this.
+/// Whether no group in a list is on a higher level than `own`.
 fn are_below(inner: &[usize], levels: &[usize], own: usize) -> bool
     ensures { result ≡ list_all (λ other. nat_le (level_at levels.now other) own) inner.now }
 {
@@ -83,14 +83,15 @@ fn are_falling(inner: &[Vec<usize>], levels: &[usize]) -> bool
     true
 }
 
-/// Whether some group in a list is on this level.
+/// Whether some group in a list is on the level `own`.
 fn is_level(inner: &[usize], levels: &[usize], own: usize) -> bool
     ensures { result ≡ list_any (λ other. level_at levels.now other == own) inner.now }
 {
     inner.iter().any(|other| level(levels, *other) == own)
 }
 
-/// The groups with one on their own level inside; none other contains itself where levels are falling.
+/// For each group, whether it has one on its own level inside. Where levels are falling, no other
+/// group contains itself.
 fn level_inside(
     alloc: Global,
     inner: &[Vec<usize>],
@@ -107,7 +108,7 @@ fn level_inside(
     Ok(doubtful)
 }
 
-/// The groups that may contain themselves: none other does.
+/// For each group, whether it may contain itself. Where this is false, it doesn't.
 fn doubtful(alloc: Global, inner: &[Vec<usize>]) -> Result<Vec<bool>, NoMemory>
     ensures { IfOk result (λ doubtful. AreSure (map (λ one. one.items) inner.now) doubtful.items) }
 {
@@ -121,7 +122,7 @@ fn doubtful(alloc: Global, inner: &[Vec<usize>]) -> Result<Vec<bool>, NoMemory>
 
 // ---- The search
 
-/// Notes a group that was found, where it was not found before.
+/// Marks a group as found, and as one to visit, if it was not found before.
 fn note(place: usize, seen: &mut [bool], pending: &mut Vec<usize>) -> Result<(), NoMemory>
     requires { place < length seen.old }
     ensures { OnOk result (Finds (place ∷ []) seen.old seen.new pending.old.items pending.new.items) }
@@ -133,7 +134,7 @@ fn note(place: usize, seen: &mut [bool], pending: &mut Vec<usize>) -> Result<(),
     Ok(())
 }
 
-/// Notes the groups inside a group, or tells that one of them is the group that is looked for.
+/// Marks the groups inside a group as found, or returns that one of them is the searched group.
 fn spread(
     inner: &[usize],
     wanted: usize,
@@ -152,7 +153,7 @@ fn spread(
     Ok(false)
 }
 
-/// Whether the group at a place leads back to itself.
+/// Whether the group at a place contains itself.
 fn leads_back(alloc: Global, inner: &[Vec<usize>], place: usize) -> Result<bool, NoMemory>
     requires { AreWithin (map (λ one. one.items) inner.now) }
     ensures { IfOk result (λ told. IsTrue told ↔ LeadsBack (inside_of (map (λ one. one.items) inner.now)) place) }
@@ -174,7 +175,7 @@ fn leads_back(alloc: Global, inner: &[Vec<usize>], place: usize) -> Result<bool,
 }
 
 impl Nesting {
-    /// The groups inside each group of a nest.
+    /// Returns the groups inside each group of a nest.
     pub(crate) fn new(alloc: Global, names: &NestNames<'_>) -> Result<Nesting, NoMemory>
         ensures { IfOk result (IsNesting names.now) }
     {

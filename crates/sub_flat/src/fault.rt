@@ -2,10 +2,10 @@ ghost use Rattle.std.specs.Prelude.{◌≡◌};
 
 use fixed_words::NoMemory;
 
-/// Why a part of a nest is not made flat.
+/// Why a part of a nest was not made flat.
 #[derive(Clone, Copy, Debug, PartialEq, Eq)]
 pub enum Unflat {
-    /// There are more instances or connections than there may be.
+    /// There are more instances or connections than allowed.
     TooLarge,
     NoMemory,
 }

@@ -1,4 +1,4 @@
-//! The flat system of a nest, up to what it may have.
+//! The flat system of a nest, up to the limits of a system.
 ghost use Rattle.std.specs.Prelude.{◌≡◌, ◌∷◌, [], ◌≤◌, nat_lt, length, map, IfOk};
 ghost use Rattle.std.specs.List.{flat_map, list_any};
 ghost use Rattle.sub_flat.specs.FlatReading.{IsKeptPrintable, MadeWithin, MakesLeaves, MakesParts, PutsWithin, leaves_inside, wire_between, wires_inside, with_parts};
@@ -46,7 +46,7 @@ fn named_in(alloc: Global, scope: &Scope, instance: &Instance) -> Result<Instanc
     })
 }
 
-/// Puts one instance more, where there is room.
+/// Adds one more instance, if there is room.
 fn put_instance(
     alloc: Global,
     scope: &Scope,
@@ -63,7 +63,7 @@ fn put_instance(
     Ok(())
 }
 
-/// Puts the components that an instance of a scope stands for behind others.
+/// Appends the components that an instance of a scope becomes.
 #[cycle(leaves)]
 fn put_inside(
     alloc: Global,
@@ -86,7 +86,7 @@ fn put_inside(
     put_leaves(alloc, names, depth - 1, &scope, instances)
 }
 
-/// Puts the components in a scope behind others.
+/// Appends the components in a scope.
 #[cycle(leaves)]
 fn put_leaves(
     alloc: Global,
@@ -104,7 +104,7 @@ fn put_leaves(
     Ok(())
 }
 
-/// Puts connections from one port to others behind those that are there.
+/// Appends connections from one port to others.
 fn put_to(alloc: Global, from: &Spot, to: &[Spot], wires: &mut List<Wire>) -> Result<(), Unflat>
     requires { length wires.old ≤ 2048 }
     ensures { PutsWithin 2048 wires.old wires.new (map (wire_between from.now) to.now) result }
@@ -120,7 +120,7 @@ fn put_to(alloc: Global, from: &Spot, to: &[Spot], wires: &mut List<Wire>) -> Re
     Ok(())
 }
 
-/// Puts what a connection of a scope becomes behind others.
+/// Appends what a connection of a scope becomes.
 fn put_flat_wire<'n>(
     alloc: Global,
     names: &NestNames<'n>,
@@ -144,7 +144,7 @@ fn put_flat_wire<'n>(
     put_to(alloc, &from, to.as_slice(), wires)
 }
 
-/// Puts what the connections of a scope become behind others.
+/// Appends what the connections of a scope become.
 fn put_own_wires<'n>(
     alloc: Global,
     names: &NestNames<'n>,
@@ -163,7 +163,7 @@ fn put_own_wires<'n>(
     Ok(())
 }
 
-/// Puts the connections inside an instance of a scope behind others.
+/// Appends the connections inside an instance of a scope.
 #[cycle(wires)]
 fn put_wires_inside<'n>(
     alloc: Global,
@@ -189,7 +189,7 @@ fn put_wires_inside<'n>(
     put_wires(alloc, names, ways, guide, depth - 1, &scope, wires)
 }
 
-/// Puts the connections in a scope behind others.
+/// Appends the connections in a scope.
 #[cycle(wires)]
 fn put_wires<'n>(
     alloc: Global,
@@ -227,8 +227,8 @@ fn has_long_name(instances: &[Instance]) -> bool
         .any(|instance| instance.name.len() > LONGEST_NAME)
 }
 
-/// The components of the flat system, where none has too long a name. Where no instance has an empty one, as in a text, no more than
-/// sixteen scopes stand in each other then.
+/// The components of the flat system, if none has too long a name. Scopes are then nested at most sixteen deep, if no
+/// instance has an empty name; in a text none has.
 fn named_instances(alloc: Global, names: &NestNames<'_>) -> Result<List<Instance>, Unflat>
     ensures { MakesLeaves names.now result }
 {
@@ -257,7 +257,7 @@ fn all_flat_wires(alloc: Global, names: &NestNames<'_>) -> Result<List<Wire>, Un
     Ok(wires)
 }
 
-/// What the flat system of a nest has in place of the components, connections and samples of `main`.
+/// The components, connections and samples of the flat system of a nest, which replace those of `main`.
 #[derive(Drop)]
 pub struct FlatParts {
     pub instances: List<Instance>,
@@ -265,7 +265,7 @@ pub struct FlatParts {
     pub samples: List<PortName>,
 }
 
-/// The parts of the flat system of a nest, which are no more than there may be.
+/// The parts of the flat system of a nest, with at most 64 instances and 2,048 connections.
 pub(crate) fn flat_parts(alloc: Global, names: &NestNames<'_>) -> Result<FlatParts, Unflat>
     ensures { MakesParts names.now result }
 {
@@ -296,7 +296,7 @@ fn with_parts(main: System, parts: FlatParts) -> System
     made
 }
 
-/// The system, where it is printable.
+/// The system, if it is printable.
 fn if_printable(alloc: Global, system: System) -> Result<System, Unflat>
     ensures { IsKeptPrintable system result }
 {

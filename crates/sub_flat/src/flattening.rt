@@ -13,7 +13,7 @@ use std::alloc::Global;
 use unit_plain::copy_system;
 use unit_tree::System;
 
-/// The refusal of a nest whose flat system isn't there, at the line `main`.
+/// The refusal of a nest that has no flat system, at the line `main`.
 fn refusal(main_line: u32, why: Unflat) -> NestFault
     ensures { result ≡ refusal_of main_line why }
 {
@@ -39,7 +39,7 @@ fn judged_parts(alloc: Global, nest: &Nest) -> Result<FlatParts, NestFault>
     }
 }
 
-/// The flat system of a nest whose `main` this is, where it is printable.
+/// The flat system of the nest with this `main`, if it is printable.
 fn whole_system(
     alloc: Global,
     main: System,
@@ -54,10 +54,10 @@ fn whole_system(
     }
 }
 
-/// The flat system of a nest: its components, with the connections that lead from component to component.
+/// Returns the flat system of a nest: its components, with the connections from component to component.
 ///
-/// A nest that breaks one of the rules 27 to 30 is refused by the least that it breaks, at the least line that breaks it. Work stops at
-/// the first instance or connection too many.
+/// A nest that breaks one of the rules 27 to 30 is refused by the least rule that it breaks, at the least line that
+/// breaks it. Work stops at the first instance or connection that is too many.
 pub fn flatten(alloc: Global, nest: &Nest) -> Result<System, NestFault>
     requires { length nest.now.lines ≡ length nest.now.groups }
     ensures answer { AnswersFlat nest.now result }
@@ -67,7 +67,8 @@ pub fn flatten(alloc: Global, nest: &Nest) -> Result<System, NestFault>
     whole_system(alloc, main, nest.main_line, parts)
 }
 
-/// The flat system of a nest, as [`flatten`] gives it. The units of the nest become those of the system and are not copied.
+/// Returns the flat system of a nest, as [`flatten`] does. The units of the nest become those of the system and are not
+/// copied.
 pub fn into_flat(alloc: Global, nest: Nest) -> Result<System, NestFault>
     requires { length nest.lines ≡ length nest.groups }
     ensures answer { AnswersFlat nest result }

@@ -1,4 +1,4 @@
-//! What the rules ask of groups.
+//! The rules of groups.
 ghost use Rattle.std.specs.Prelude.{◌≡◌, ℕ, ◌↔◌, ◌≤◌, ◌<◌, IfOk, IsTrue, length, slice_get, if◌then◌else◌, Some};
 ghost use Rattle.sub_flat.specs.FlatReading.{IsLeast, JudgesLeast, JudgesNest, MissesAt, Refuses, is_less, rule_number, rule_of};
 ghost use Rattle.sub_flat.specs.NestRules.{AtGroup, BreaksGroup};
@@ -15,11 +15,11 @@ use std::alloc::Global;
 /// The rules that a group may break.
 #[derive(Clone, Copy, Debug, PartialEq, Eq)]
 pub enum GroupRule {
-    /// Rule 27: its name is not its own, or it has no instance.
+    /// Rule 27: another group or a unit has its name, or it has no instance.
     Names,
     /// Rule 28: it contains itself.
     Nesting,
-    /// Rule 29: a port isn't there, or an `out` name stands twice.
+    /// Rule 29: a port doesn't exist, or the name of an `out` line occurs twice.
     Ports,
 }
 
@@ -71,14 +71,14 @@ fn is_less(line: u32, least: Option<u32>) -> bool
     }
 }
 
-/// A line that breaks a rule, or what was kept.
+/// This line if it breaks a rule, else the least line so far.
 fn kept(broken: bool, line: u32, least: Option<u32>) -> Option<u32>
     ensures { result ≡ (if broken then Some line else least) }
 {
     if broken { Some(line) } else { least }
 }
 
-/// The least line of a group that breaks the rule. A group is asked only where it is at a less line than one that does.
+/// The least line of a group that breaks the rule. A group is tested only if its line is before the least one so far.
 fn least_line(
     alloc: Global,
     names: &NestNames<'_>,
@@ -103,7 +103,7 @@ fn least_line(
     Ok(least)
 }
 
-/// The least line at which a port isn't there, `main` included.
+/// The least line where a port doesn't exist, also that of `main`.
 fn least_miss(
     alloc: Global,
     names: &NestNames<'_>,
@@ -121,7 +121,7 @@ fn least_miss(
     Ok(kept(main_misses_port(names), main_line, least))
 }
 
-/// The refusal by a rule, at the least line that breaks it.
+/// The refusal by a rule, at the least line that breaks it, if there is one.
 fn refusal(least: Option<u32>, rule: u8) -> Result<(), NestFault>
     ensures { Refuses rule least result }
 {
@@ -156,7 +156,7 @@ fn judge_ports(alloc: Global, names: &NestNames<'_>, nesting: &Nesting) -> Resul
     refusal(least, GroupRule::Ports.number())
 }
 
-/// Judges all rules of groups, but for the size of the flat system.
+/// Judges all rules of groups, except the one on the size of the flat system.
 pub(crate) fn judge(alloc: Global, names: &NestNames<'_>) -> Result<(), NestFault>
     requires { length names.now.lines ≡ length names.now.groups }
     ensures { JudgesNest names.now result }

@@ -1,6 +1,8 @@
-//! Levels of groups: those that contain each other are on one level, and no group is on a lower one than a group inside it.
+//! Levels of groups: groups that contain each other are on one level, and no group is on a lower one than a group
+//! inside it.
 //!
-//! Nothing rests on how they are found: whoever uses them tests them first.
+//! No proof depends on how they are found: each caller tests them first. They are found as strongly connected
+//! components, by Tarjan's method.
 ghost use Rattle.std.specs.Prelude.{◌≡◌};
 ghost use Rattle.sub_flat.specs.Searching.{level_at};
 
@@ -23,21 +25,22 @@ pub(crate) fn put(numbers: &mut [usize], place: usize, number: usize) {
     }
 }
 
-/// A walk in depth along the groups inside groups.
+/// A depth-first walk over the groups inside groups.
 #[derive(Drop)]
 struct Walk {
-    /// The group that is entered next where the walk ended.
+    /// The group that is entered next, when no group is entered.
     root: usize,
-    /// How many groups were entered, and how many levels are done.
+    /// How many groups were entered, and how many levels are complete.
     entered: usize,
     done: usize,
-    /// For each group when it was entered, from 1, and the least such number that it leads to as far as is known.
+    /// For each group the number at which it was entered, from 1, and the least such number that is known to be reached
+    /// from it.
     numbers: Vec<usize>,
     least: Vec<usize>,
     /// For each group which of those inside it comes next, and its level, from 1.
     next: Vec<usize>,
     levels: Vec<usize>,
-    /// The groups around the one where the walk is, and those that were entered and have no level yet.
+    /// The groups around the one where the walk is, with this one, and those that were entered and have no level yet.
     path: Vec<usize>,
     open: Vec<usize>,
 }
@@ -67,14 +70,14 @@ impl Walk {
         Ok(())
     }
 
-    /// Notes that the group at a place leads to one of this number.
+    /// Records that the group at a place reaches one with this number.
     fn note(&mut self, place: usize, number: usize) {
         if number < level(self.least.as_slice(), place) {
             put(self.least.as_mut_slice(), place, number);
         }
     }
 
-    /// Goes on to a group inside the one where the walk is.
+    /// Visits a group inside the one where the walk is.
     fn go_on(&mut self, place: usize, other: usize) -> Result<(), NoMemory> {
         let number = level(self.numbers.as_slice(), other);
         if number == 0 {
@@ -86,7 +89,7 @@ impl Walk {
         Ok(())
     }
 
-    /// Goes on to the next group that was not entered, if this is one.
+    /// Enters the next group if it was not entered before.
     fn begin(&mut self, count: usize) -> Result<(), NoMemory> {
         let root = self.root;
         self.root = root.saturating_add(1);
@@ -96,7 +99,7 @@ impl Walk {
         Ok(())
     }
 
-    /// Gives a level to the groups that were entered from the one at a place on.
+    /// Completes a level: that of the groups that were entered from the one at a place on.
     fn close(&mut self, place: usize) {
         self.done = self.done.saturating_add(1);
         while let Some(other) = self.open.pop() {
@@ -139,8 +142,8 @@ impl Walk {
     }
 }
 
-/// How many steps the walk takes at most: each group is begun with, or passed over, and left once, and gone on from for each group
-/// inside it.
+/// The most steps that the walk takes: for each group one that begins with it or passes over it, one that leaves it,
+/// and one for each group inside it.
 fn steps(inner: &[Vec<usize>]) -> usize {
     let mut steps: usize = 0;
     for others in inner {

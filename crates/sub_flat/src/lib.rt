@@ -1,12 +1,14 @@
 //! Nests made flat: groups of components as one system of components.
 //!
-//! [`flatten`] gives the flat system of a nest, or tells the least rule of groups that it breaks, at the least line; [`into_flat`] makes
-//! it of the nest itself. The layer above uses it behind [`nest_text::read_nest`].
+//! [`flatten`] returns the flat system of a nest, or the least rule of groups that it breaks, at the least line.
+//! [`into_flat`] makes the system from the nest itself, which it takes. The layer above uses it after
+//! [`nest_text::read_nest`].
 //!
-//! Names and scopes are those of `nest_names`, and where connections lead is worked out by `nest_ways`.
+//! Names and scopes are those of `nest_names`. `nest_ways` computes which inputs connections reach.
 //!
-//! Definitions: `specs/Flattening.antt` of nest_names (the flat system) and `specs/NestRules.antt` (which nests have none). How
-//! flattening goes about it stands in `specs/FlatReading.antt` (early ends) and `specs/Searching.antt` (groups that contain themselves).
+//! Definitions: `specs/Flattening.antt` of nest_names (the flat system) and `specs/NestRules.antt` (which nests have
+//! none). How flattening works is defined in `specs/FlatReading.antt` (early ends) and `specs/Searching.antt` (groups
+//! that contain themselves).
 #![tactic(auto)]
 
 mod asks;

@@ -10,14 +10,15 @@ use std::alloc::Global;
 use std::collections::BTreeMap;
 use unit_tree::PortName;
 
-/// The places of samples by their ports. Nothing rests on it: whoever asks it tests what it says.
+/// The places of samples by their ports. No proof depends on it: each caller tests the place that it
+/// gives.
 type PlacesByPort<'n> = BTreeMap<(&'n [u8], &'n [u8]), usize>;
 
 fn parts_of(port: &PortName) -> (&[u8], &[u8]) {
     (port.instance.as_slice(), port.port.as_slice())
 }
 
-/// What the sample at a place became, where it is the same as this one.
+/// The port that the sample at a place became, if that sample is the same as this one.
 fn made_at<'m>(
     samples: &[PortName],
     made: &'m [PortName],
@@ -48,7 +49,8 @@ fn flat_sample(
     flat_port(alloc, &spot)
 }
 
-/// A sample of `main`, as a port of a component: what the same one became, where it stands before.
+/// A sample of `main`, as a port of a component. If the same sample came before, this is a copy of what it
+/// became.
 fn next_sample<'n>(
     alloc: Global,
     names: &NestNames<'_>,

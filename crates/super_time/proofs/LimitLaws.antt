@@ -5,7 +5,7 @@ use Rattle.std.proofs.lemmas.Bool.Decides.{nat_tests}
 use Rattle.std.proofs.lemmas.Bool.{cases_lt}
 use Rattle.super_time.specs.LocalTime.{local_step, local_time, limit_of}
 
--- A limit that is not 0 ends where so many local ticks have passed.
+-- A limit that is not 0 ends where exactly that many local ticks have passed.
 ends_at : (factor t local : ℕ) → 1 ≤ factor → t + limit_of factor t (suc local) ≡ (t / factor + suc local) * factor
 ends_at factor t local some =
     let opened : limit_of factor t (suc local) ≡ (t / factor + suc local) * factor - t = grind (arith, nat_tests) in
@@ -32,7 +32,7 @@ is_least factor t (suc local) h some shorter =
     let less : (t + h) / factor < t / factor + suc local = (div-lt_iff_lt-mul some).1 before in
     omega arith
 
--- A step in which so many local ticks pass reaches the limit.
+-- A step in which that many local ticks pass reaches the limit.
 pub limit_is_at_most : (factor t local h : ℕ) → 1 ≤ factor → local ≤ local_step factor t h → limit_of factor t local ≤ h
 limit_is_at_most factor t local h some within = elim (cases_lt h (limit_of factor t local)) [
   | inl shorter ↦ let fewer = is_least factor t local h some shorter in absurd (omega (arith, within, fewer))

@@ -5,7 +5,8 @@ use Rattle.super_time.specs.LocalTime.{local_time, local_step, limit_of}
 use Rattle.super_time.specs.Seconds.{seconds_of}
 use Rattle.super_time.specs.declared.seconds.SecondsFault.TheVariants.{NotDecimal, NotMultiple, TooLarge}
 
--- A step to the limit is a local step of so many local ticks, and every shorter one is a shorter local step.
+-- A step to the limit is a local step of exactly that many local ticks, and every shorter step is a shorter
+-- local step.
 abbrev pub LimitsPassLocalTicks : Type 0
 LimitsPassLocalTicks =
     (factor t local : ℕ) → 1 ≤ factor

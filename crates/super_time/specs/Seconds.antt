@@ -1,4 +1,4 @@
--- Seconds as ticks: a tick is ten to the power of minus the resolution, in seconds.
+-- Seconds as ticks: with resolution r, a tick is 10^-r seconds.
 use Rattle.std.specs.Prelude.{ℕ, ◌≤◌, ⊤, List, ◌*◌, ◌/◌, ◌%◌, ◌^◌, ◌==◌, not, ◌&&◌, nat_lt, if◌then◌else◌, unsigned_abs, Option, Some, None, Result, Ok, Err}
 use Rattle.std.specs.Int.{is_negative}
 use Rattle.model_rules.specs.Limits.{decimals_limit}
@@ -13,8 +13,8 @@ abbrev pub AreDecimalsOf : Literal → Type 0
 AreDecimalsOf (literal.Truth told) = ⊤
 AreDecimalsOf (literal.Number number decimals) = decimals ≤ decimals_limit
 
--- A literal that is no truth value and not negative is a number of seconds: so many units of ten to the power of
--- minus its decimals. This is it in ticks, where it is a whole number of them.
+-- A literal that is neither a truth value nor negative is a number of seconds: its word times 10^-d, for d
+-- decimals. This is that number in ticks, where it is a whole number of them.
 abbrev pub ticks_in : ℕ → Literal → Option ℕ
 ticks_in resolution (literal.Truth told) = None
 ticks_in resolution (literal.Number number decimals) =
@@ -26,7 +26,7 @@ abbrev pub within_run : Option ℕ → Result ℕ SecondsFault
 within_run None = Err NotMultiple
 within_run (Some ticks) = if nat_lt (10 ^ 15) ticks then Err TooLarge else Ok ticks
 
--- The ticks that a literal is, or why it is none: it is judged first by its form, then by its value.
+-- The ticks of a literal, or why it has none: its form is judged first, then its value.
 abbrev pub seconds_of : ℕ → Literal → Result ℕ SecondsFault
 seconds_of resolution (literal.Truth told) = Err NotDecimal
 seconds_of resolution (literal.Number number decimals) =

@@ -2,7 +2,7 @@
 ghost use Rattle.std.specs.Prelude.{◌≡◌, ◌≤◌, ◌+◌, ◌^◌};
 ghost use Rattle.super_time.specs.LocalTime.{local_time, local_step, limit_of};
 
-/// The local time at `t`, in local ticks. Nothing is divided for a component that counts the system's own ticks.
+/// The local time at `t`, in local ticks. Where a local tick is one tick of the system, this needs no division.
 #[inline]
 pub fn local_time(factor: u64, t: u64) -> u64
     requires factor { 1 ≤ factor }
@@ -11,7 +11,7 @@ pub fn local_time(factor: u64, t: u64) -> u64
     if factor == 1 { t } else { t / factor }
 }
 
-/// How many local ticks begin in a step of `h` from `t`.
+/// How many local ticks begin in a step of length `h` from `t`.
 #[inline]
 pub fn local_step(factor: u64, t: u64, h: u64) -> u64
     requires factor { 1 ≤ factor }
@@ -25,7 +25,7 @@ pub fn local_step(factor: u64, t: u64, h: u64) -> u64
     }
 }
 
-/// The ticks from `t` until so many local ticks have passed; 0 for none.
+/// The ticks from `t` until `local` local ticks have passed; 0 for none.
 pub fn limit(factor: u64, t: u64, local: u64) -> u128
     requires factor { 1 ≤ factor }
     requires coarsest { factor ≤ 10 ^ 9 }

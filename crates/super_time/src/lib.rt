@@ -1,13 +1,13 @@
 //! Superdense time: points of a run, the clocks of components, and seconds as ticks.
 //!
-//! A run counts ticks of the system; a component of a coarser resolution counts local ticks, each of which is
-//! `factor` ticks of the system. [`local_time`], [`local_step`] and [`limit`] go between the two. [`read_seconds`] is
+//! A run counts ticks of the system. A component of a coarser resolution counts local ticks, each of which is `factor`
+//! ticks of the system. [`local_time`], [`local_step`] and [`limit`] convert between the two. [`read_seconds`] gives
 //! the ticks of a literal, and [`seconds_text`] writes ticks as seconds. The layers above use these, [`Point`], and the
-//! definitions; but for the growth of a text none of it takes memory.
+//! definitions. Nothing here takes memory, except the growth of a text.
 //!
-//! Definitions: `specs/LocalTime.antt` (local time, local steps, limits), `specs/Seconds.antt` (how many ticks a
-//! number of seconds is, or why it is none; ticks as a text), `specs/Laws.antt`. The public functions without a body
-//! are laws of them.
+//! Definitions: `specs/LocalTime.antt` (local time, local steps, limits), `specs/Seconds.antt` (how many ticks a number
+//! of seconds is, or why it is none; ticks as a text), `specs/Laws.antt`. The public functions without a body are laws
+//! about them.
 #![tactic(auto)]
 
 mod clock;

@@ -1,4 +1,4 @@
-/// A point of superdense time: ticks, and how many steps of length zero came before at that time.
+/// A point of superdense time: a time, and how many steps of length zero were made at it before.
 #[derive(Clone, Copy, Debug, PartialEq, Eq)]
 pub struct Point {
     /// In ticks of the system.

@@ -4,18 +4,18 @@ ghost use Rattle.super_time.specs.Seconds.{AreDecimalsOf, seconds_of, seconds_te
 
 use fixed_words::{Literal, NoMemory, magnitude_text, ten_to_the};
 
-/// Why a literal is no number of ticks that a run may have.
+/// Why a literal is not a number of ticks that a run may have.
 #[derive(Clone, Copy, Debug, PartialEq, Eq)]
 pub enum SecondsFault {
     /// It is a truth value, or negative.
     NotDecimal,
-    /// It is a number of seconds that is no whole number of ticks.
+    /// It is a number of seconds, but not a whole number of ticks.
     NotMultiple,
-    /// It is a whole number of ticks, above 10^15.
+    /// It is a whole number of ticks above 10^15.
     TooLarge,
 }
 
-/// So many units of a power of ten.
+/// `number` times a power of ten.
 fn product(number: u64, unit: u32) -> u128
     requires { unit ≤ 10 ^ 9 }
     ensures { result ≡ number * unit }
@@ -23,7 +23,7 @@ fn product(number: u64, unit: u32) -> u128
     u128::from(number) * u128::from(unit)
 }
 
-/// Ticks as those of a run, which has at most 10^15.
+/// Returns ticks that a run may have: at most 10^15. Else `TooLarge`.
 fn of_run(ticks: u128) -> Result<u64, SecondsFault>
     ensures { result ≡ within_run (Some ticks) }
 {
@@ -34,7 +34,7 @@ fn of_run(ticks: u128) -> Result<u64, SecondsFault>
     }
 }
 
-/// The ticks in so many units of ten to the power of minus `decimals` seconds.
+/// The ticks in `number` times 10^-`decimals` seconds.
 fn ticks(resolution: u8, number: u64, decimals: u8) -> Result<u64, SecondsFault>
     requires resolution { resolution ≤ 9 }
     requires decimals { decimals ≤ 9 }
@@ -50,8 +50,9 @@ fn ticks(resolution: u8, number: u64, decimals: u8) -> Result<u64, SecondsFault>
     }
 }
 
-/// The ticks that a literal is as a number of seconds, where a tick is ten to the power of minus `resolution` seconds; or
-/// why it is none that a run may have: first by its form, then by its value. No memory is taken.
+/// The ticks of a literal as a number of seconds, where a tick is 10^-`resolution` seconds. Where the literal is not a
+/// number of ticks that a run may have, the error states why: first its form is judged, then its value. It takes no
+/// memory.
 pub fn read_seconds(resolution: u8, literal: Literal) -> Result<u64, SecondsFault>
     requires resolution { resolution ≤ 9 }
     requires decimals { AreDecimalsOf literal }
@@ -69,8 +70,8 @@ pub fn read_seconds(resolution: u8, literal: Literal) -> Result<u64, SecondsFaul
     }
 }
 
-/// Appends a time in ticks as seconds, with exactly `resolution` decimals, and no point where that is 0. Only the growth
-/// of `out` takes memory; where there is none `out` is as before.
+/// Appends a time in ticks as seconds, with exactly `resolution` decimals, and without a point where that is 0. Only
+/// the growth of `out` takes memory; where there is none, `out` is unchanged.
 pub fn seconds_text(resolution: u8, t: u64, out: &mut Vec<u8>) -> Result<(), NoMemory>
     requires { resolution ≤ 9 }
     ensures ok { OnOk result (out.new.items ≡ out.old.items ++ seconds_text_of resolution t) }

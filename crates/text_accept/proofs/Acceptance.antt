@@ -46,9 +46,9 @@ one_source text one other ones others a b =
       a.are_lines ∙ ap (λ (parts : List Part). in_canonical_order parts (numbers_of (source_lines text))) same_parts ∙ sym b.are_lines,
     )
 
--- ---- Each canonical line has its source
+-- ---- Each canonical line has its source line
 
--- there are as many lines that canonical lines came from as canonical lines
+-- there is one source line for each canonical line
 pub sites_count : (system : System) → length (sites_of system) ≡ length (canonical_forms system)
 sites_count system = sym (length-map (sites_of system) (λ site. site.line)) ∙ ap length (sites_are system)
 
@@ -195,7 +195,7 @@ judged cycles text = by_answer (once text).answered
         judged_by_rules cycles text system lines (record { reads = reads; are_lines = refl }) (refusal_of system) refl
     by_answer (inr (line, rule, refused)) = inr (line, rule, inl refused)
 
--- ---- Lines of the code's answers
+-- ---- Lines of the code's results
 
 -- the line of a refusal is one of those that canonical lines came from
 pub refusal_inside : (system : System) (lines : List ℕ) (refusal : Refusal) → length lines ≡ length (canonical_forms system)
@@ -205,7 +205,7 @@ refusal_inside system lines refusal many found =
     let same = many ∙ sym (sites_count system) in
     (within.0, let last = within.1 in omega (arith, last, same))
 
--- and so is that of an output
+-- and so is the line of an output
 pub output_inside : (system : System) (lines : List ℕ) (port : PortName) (item : ℕ) → length lines ≡ length (canonical_forms system)
     → line_of_output system port ≡ Some item → (1 ≤ item) × (item ≤ length lines)
 output_inside system lines port item many declared =

@@ -35,7 +35,7 @@ numbered_once system instance output one other a b =
     (subst (λ (c : Named). slice_get c.1.outputs output ≡ Some a.declared) component a.is_output) b.is_output in
     sym a.is ∙ ap (λ (c : Named). port_named c.0 a.declared.name) component ∙ ap (λ (o : Output). port_named b.component.0 o.name) declared ∙ b.is
 
--- The port of the system, from the names of the plain form without the mark.
+-- The port of the system, from the names in the plain form without the final `?`.
 pub same_source : (system : System) → IsRanged system → IsWellFormed system → (names : PortName) (without : List ℕ) (source : SourceOutput system names)
     → IsWithoutMark names.port without → port_named names.instance without ≡ source.port
 same_source system ranged kept names without source mark = by source.makes
@@ -49,7 +49,7 @@ same_source system ranged kept names without source mark = by source.makes
         let name : without ≡ source.port.port = mark.marked source.port.port (ap (λ (p : PortName). p.port) is) in
         ap (port_named names.instance) name ∙ ap (λ (p : PortName). port_named p.instance source.port.port) is
 
--- The line of the first output without an order is there.
+-- The line of the first output without an order exists.
 pub record CycleLine (system : System) (names : PortName) : Type 0 where
   pub first : IsFirstWithoutOrder system names
   pub item : ℕ
@@ -68,7 +68,7 @@ cycle_line system ranged kept instance output fault names numbered without mark 
 pub some_line : (found : Option ℕ) (item : ℕ) → found ≡ Some item → IsSome found
 some_line found item is = subst IsSome (sym is) refl
 
--- What the answer to the system that a text says is, it is to the text.
+-- The result for the system of a text is the result for the text.
 pub answers_text : (text : List ℕ) (system : System) (lines : List ℕ) (result : Result AcceptedText TextFault) → ReadsFrom text system lines
     → AnswersSystem system lines result → AnswersAcceptance text result
 answers_text text system lines (Ok read) reads is = (

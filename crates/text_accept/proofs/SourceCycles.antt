@@ -1,4 +1,4 @@
--- The first output without an order of the plain form is made of the first one of the system itself.
+-- The first output without an order of the plain form comes from the first one of the system itself.
 use Rattle.std.proofs.Common.{◌≡◌, ℕ, ◌+◌, Bool, true, false, cond, List, [], ◌∷◌, ◌++◌, ◌⊎◌, inl, inr, refl, ap, sym, subst, ◌∙◌}
 use Rattle.std.specs.Prelude.{◌==◌}
 use Rattle.std.specs.List.{AllByRecursion}
@@ -85,7 +85,7 @@ module _ (system : System) (ranged : IsRanged system) (kept : IsWellFormed syste
   origin (port ∷ outputs) before later made is =
       origin_by (is_event_output system port) port outputs later made refl (λ front cut. origin outputs front later made cut) before is
 
-  -- ---- What has an order
+  -- ---- Outputs that have an order
 
   none_of_made : (port made : PortName) → Has (split system ranged kept port) made → HasNoOrder (plain_of system) made → HasNoOrder system port
   none_of_made port made from none order is_orderly stands =
@@ -126,7 +126,7 @@ module _ (system : System) (ranged : IsRanged system) (kept : IsWellFormed syste
 
 -- ---- Both versions
 
--- The port that an output of the plain form is made of: in version 1 itself.
+-- The port that an output of the plain form comes from: in version 1 itself.
 abbrev pub IsMadeOf : System → PortName → PortName → Type 0
 IsMadeOf system made port = (made ≡ port) ⊎ (made ≡ presence_port port)
 
@@ -170,11 +170,11 @@ source_of system made ranged kept first = by_version (one_or_two system.version 
               split_makes (is_event_output system found.0) system found.0 made found.1;
         }
 
--- An order of what is run shows that the system has no cycle.
+-- An order of the composition shows that the system has no cycle.
 pub without_cycle : (system : System) → IsRanged system → IsWellFormed system → (order : List ℕ) → IsPlaceOrder (run_of system) order → HasNoCycle system
 without_cycle system ranged kept order is_order = orders_have_runs system ranged kept (order, is_order)
 
--- Names of outputs are no names of presence.
+-- Names of outputs are not names of `?` ports.
 pub name_is_plain : (system : System) → IsRanged system → IsWellFormed system → (port : PortName) → IsIn (outputs_of system) port → (event : List ℕ)
     → port.port ≡ presence_name event → ⊥
 name_is_plain system ranged kept port stands = plain_name system ranged kept port stands

@@ -1,5 +1,6 @@
--- Which texts are accepted by the rules of the language, and at which line and by which rule any other is refused. The rules are
--- judged in stages: those on the text and its lines, those on the system that it says, and at last that its outputs have an order.
+-- Which texts are accepted by the rules of the language, and at which line and by which rule any other is refused. The
+-- rules are judged in stages: those on the text and its lines, then those on its system, and last that its outputs have
+-- an order.
 use Rattle.std.specs.Prelude.{◌≡◌, ℕ, ◌-◌, List, Option, Some, Result, Ok, Err, slice_get, ◌⊎◌, ⊤}
 use Rattle.unit_tree.specs.Compositions.{run_of}
 use Rattle.unit_tree.specs.Orders.{HasNoCycle, IsFirstWithoutOrder, line_of_output}
@@ -13,8 +14,8 @@ use Rattle.unit_text.specs.declared.fault.TextFault.{TextFault}
 use Rattle.unit_text.specs.declared.fault.TextFault.TheVariants as fault
 use Rattle.text_accept.specs.declared.accepting.AcceptedText.{AcceptedText}
 
--- The text says the system, whose canonical lines came from these lines of the text; no rule is broken, and its outputs have
--- an order.
+-- The text has the system, whose canonical lines came from these lines of the text. No rule is broken, and the outputs
+-- have an order.
 pub record IsAcceptedAs (text : List ℕ) (system : System) (lines : List ℕ) : Type 0 where
   pub reads : ReadsFrom text system lines
   pub well_formed : IsWellFormed system
@@ -32,7 +33,7 @@ pub record BreaksRule (system : System) (lines : List ℕ) (line rule : ℕ) : T
   pub at : source_line lines refusal.at ≡ Some line
   pub by : rule ≡ refusal.by
 
--- It keeps these rules, and some output has no order: the line is that of the first such output in its unit.
+-- The system keeps these rules, and some output has no order: the line is that of the first such output in its unit.
 pub record HasCycle (system : System) (lines : List ℕ) (line rule : ℕ) : Type 0 where
   pub well_formed : IsWellFormed system
   pub port : PortName
@@ -46,18 +47,18 @@ pub record HasCycle (system : System) (lines : List ℕ) (line rule : ℕ) : Typ
 abbrev pub IsSystemRefusedAt : System → List ℕ → ℕ → ℕ → Type 0
 IsSystemRefusedAt system lines line rule = BreaksRule system lines line rule ⊎ HasCycle system lines line rule
 
--- The system that the text says is refused.
+-- The system of the text is refused.
 pub record SaysRefused (text : List ℕ) (line rule : ℕ) : Type 0 where
   pub system : System
   pub lines : List ℕ
   pub reads : ReadsFrom text system lines
   pub refused : IsSystemRefusedAt system lines line rule
 
--- The text is refused at the line by the rule: by those on the text and its lines, or by those on the system that it says.
+-- The text is refused at the line by the rule: by the rules on the text and its lines, or by those on its system.
 abbrev pub IsRefusedAt : List ℕ → ℕ → ℕ → Type 0
 IsRefusedAt text line rule = IsRefused text line rule ⊎ SaysRefused text line rule
 
--- ---- Answers
+-- ---- Results
 
 -- A refusal at the line that a canonical line came from.
 abbrev pub IsAtSource : List ℕ → ℕ → ℕ → TextFault → Type 0
@@ -70,7 +71,7 @@ pub record IsLineOfCycle (system : System) (item : ℕ) : Type 0 where
   pub first : IsFirstWithoutOrder system port
   pub declared : line_of_output system port ≡ Some item
 
--- The system was accepted as it is, with the lines that its canonical lines came from and an order of its outputs.
+-- The system was accepted unchanged, with the lines that its canonical lines came from and an order of its outputs.
 pub record IsAcceptedWith (system : System) (lines : List ℕ) (read : AcceptedText) : Type 0 where
   pub checked : read.checked ≡ system
   pub same_lines : read.lines ≡ lines
@@ -78,14 +79,14 @@ pub record IsAcceptedWith (system : System) (lines : List ℕ) (read : AcceptedT
   pub well_formed : IsWellFormed system
   pub ordered : HasNoCycle system
 
--- The answer to a system whose canonical lines came from these lines of a text; want of memory says nothing.
+-- The result for a system whose canonical lines came from these lines of a text. Without memory nothing is stated.
 abbrev pub AnswersSystem : System → List ℕ → Result AcceptedText TextFault → Type 0
 AnswersSystem system lines (Ok read) = IsAcceptedWith system lines read
 AnswersSystem system lines (Err (fault.Line line rule)) = IsSystemRefusedAt system lines line rule
 AnswersSystem system lines (Err fault.NoMemory) = ⊤
 
--- The answer to a text: the system that it is accepted as, with an order of its outputs, or the line and the rule by which it is
--- refused; want of memory says nothing.
+-- The result for a text: the system with which it is accepted, with an order of its outputs, or the line and the rule
+-- by which it is refused. Without memory nothing is stated.
 abbrev pub AnswersAcceptance : List ℕ → Result AcceptedText TextFault → Type 0
 AnswersAcceptance text (Ok read) = IsAcceptedAs text read.checked read.lines × IsOrderOf (run_of read.checked) read.order
 AnswersAcceptance text (Err (fault.Line line rule)) = IsRefusedAt text line rule

@@ -8,7 +8,7 @@ abbrev pub IsAcceptedOrRefused : List ℕ → Type 0
 IsAcceptedOrRefused text =
     ((system : System) × (lines : List ℕ) × IsAcceptedAs text system lines) ⊎ ((line : ℕ) × (rule : ℕ) × IsRefusedAt text line rule)
 
--- It is so in one way alone.
+-- There is only one way in which it is accepted or refused.
 pub record IsJudgedOnce (text : List ℕ) : Type 0 where
   pub judged : IsAcceptedOrRefused text
   pub one_system : (one other : System) (ones others : List ℕ) → IsAcceptedAs text one ones → IsAcceptedAs text other others → (one ≡ other) × (ones ≡ others)

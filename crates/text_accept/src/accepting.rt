@@ -1,4 +1,4 @@
-//! A text, read and judged by all rules; and a system by those on systems.
+//! A text, read and judged by all rules; and a system, judged by the rules on systems.
 ghost use Rattle.std.specs.Prelude.{◌≡◌, ◌≤◌, ⊤, length, IfOk, IfErr};
 ghost use Rattle.text_accept.specs.Accepting.{AnswersAcceptance, AnswersSystem, IsAtSource, IsLineOfCycle};
 ghost use Rattle.text_accept.specs.Marks.{IsWithoutMark};
@@ -15,8 +15,8 @@ use unit_text::{ReadText, TextFault, read_system};
 use unit_tree::{Checked, Order, System};
 use wire_graph::{OrderFault, order, output_names};
 
-/// A text that keeps all rules: its system, for each canonical line of it the number of the line of the text that it came from,
-/// and an order of its outputs with the routes of all ports.
+/// A text that keeps all rules: its system, the number of the line of the text that each of its canonical lines came
+/// from, and an order of its outputs with the routes of all ports.
 #[derive(Debug, Drop)]
 pub struct AcceptedText {
     pub checked: Checked,
@@ -36,7 +36,7 @@ fn at_source(lines: &[u32], item: u32, rule: u8) -> TextFault
     }
 }
 
-/// A name of the plain form as that of the port which it is made of: the mark of presence is left out.
+/// The name of the port that a port of the plain form was made from: without the final `?`.
 fn without_mark(name: &[u8]) -> &[u8]
     ensures { IsWithoutMark name.now result.now }
 {
@@ -88,10 +88,11 @@ fn accept_checked(
     }
 }
 
-/// Judges a system by all rules on systems, in either version of the language, and whether its outputs have an order. Each of its
-/// canonical lines came from one of the `lines` of a text, at which it is refused.
+/// Judges a system by all rules on systems, in either version of the language, and whether its outputs have an order.
+/// Each of its canonical lines came from one of the `lines` of a text, at which it is refused.
 ///
-/// What is refused breaks the least rule, at the first canonical line that breaks it; the order of outputs is judged last.
+/// A refusal names the least rule that is broken, at the first canonical line that breaks it. The order of outputs is
+/// judged last.
 pub fn accept_system(
     alloc: Global,
     system: System,
@@ -108,10 +109,10 @@ pub fn accept_system(
     }
 }
 
-/// Reads a text, and judges the system that it says, in either version of the language, and whether its outputs have an order.
+/// Reads a text, and judges its system, in either version of the language, and whether its outputs have an order.
 ///
-/// A text that breaks a rule is refused by the first stage that finds one, at its line and by the rule: on the text and its
-/// lines, on the system, and at last on the order of its outputs.
+/// A text that breaks a rule is refused by the first stage that finds one, at its line and by the rule: on the text and
+/// its lines, on the system, and last on the order of its outputs.
 pub fn accept_text(alloc: Global, text: &[u8]) -> Result<AcceptedText, TextFault>
     ensures { AnswersAcceptance text.now result }
 {

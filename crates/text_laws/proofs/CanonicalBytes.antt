@@ -58,8 +58,8 @@ not_blank tokens line true is some spelled =
     let never : false ≡ true = ap (starts_with (λ first. true)) (sym none) ∙ some in
     absurd (cc)
 
--- What is known of a line that is spelled by its canonical text: it is all code, has no forbidden byte and
--- no CR, and is not blank.
+-- What is known of a line that its canonical text spells: it is all code, has no forbidden byte and no CR,
+-- and is not blank.
 pub record IsSpelled (some : LineForm) : Type 0 where
   pub spelled : Spells (form_tokens some) (line_text some)
   pub bytes : list_all is_spelled_byte (line_text some) ≡ true
@@ -112,7 +112,7 @@ first_line_is (byte ∷ line) rest spelled =
     let parts = and_parts (is_spelled_byte byte) (list_all is_spelled_byte line) spelled in
     rw (spelled_no_end byte parts.0) (ap (onto_first byte) (first_line_is line rest parts.1))
 
--- The lines of such a text are the texts of the lines.
+-- The lines of such a text are the texts that were joined.
 lines_are : (lines : List LineForm) → AllByRecursion IsSpelled lines → lines_of (ended lines) ≡ map line_text lines
 lines_are [] spelled = refl
 lines_are (first ∷ others) spelled =
@@ -166,7 +166,7 @@ pub canonical_codes : (system : System) → IsPrintable system
     → AllByRecursion (λ some. Spells (form_tokens some) (code_of (line_text some))) (canonical_forms system)
 canonical_codes system printable = spelled_codes (canonical_forms system) (canonical_spelled system printable)
 
--- The canonical text has no line that lacks its end, so that its size is its length.
+-- Each line of the canonical text has its end, so that its size is its length.
 pub canonical_size : (system : System) → IsPrintable system → size_of (canonical_text system) ≡ length (canonical_text system)
 canonical_size system printable =
     ap (sum_by (λ line. length line + 1)) (lines_are (canonical_forms system) (canonical_spelled system printable)) ∙ size_is (canonical_forms system)

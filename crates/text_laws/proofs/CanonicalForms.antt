@@ -66,7 +66,7 @@ tail_is_written (OfLiteral value) ranged writable = literal_is_written value wri
 tail_is_written (OfSeconds seconds) ranged writable = seconds_are_written seconds writable
 tail_is_written (OfExpression value) ranged writable = expression_is_again value ranged writable
 
--- The canonical tokens of a form that is in range, and whose tail can be written, write it.
+-- The canonical tokens of a form write it, if the form is in range and its tail can be written.
 pub canonical_is_written : (some : LineForm) → IsInRange some → IsTrue (is_writable (tail_of some)) → WritesForm some (form_tokens some)
 canonical_is_written some ranged writable = record {
   tail = tail_tokens (tail_of some);

@@ -1,4 +1,4 @@
--- Each canonical line may stand where it does.
+-- Each canonical line is allowed where it is.
 use Rattle.std.proofs.Common.{◌≡◌, ℕ, Bool, true, false, cond, not, nat_le, List, [], ◌∷◌, ◌++◌, append_assoc, map, Option, Some, None, IsTrue, refl, ap, sym}
 use Rattle.std.proofs.Common.{subst, ◌∙◌}
 use Rattle.std.specs.Prelude.{◌||◌}
@@ -31,9 +31,9 @@ use Rattle.text_laws.proofs.PlacedParts.{may_follow, is_shallow, unit_part_may_s
 use Rattle.text_laws.proofs.SpelledBytes.{all_pass}
 use Rattle.list_laws.proofs.Lists.{all_of_two}
 
--- ---- Parts behind others
+-- ---- Parts after others
 
--- Parts may stand one behind the other where the first ones do, and the others behind them.
+-- Parts are allowed in a row if the first ones are, and the others after them.
 may_follow_both : {P : Type 0} (forms : P → List LineForm) (may : Before → P → Bool) (xs ys : List P) (before : Before)
     → may_follow forms may before xs ≡ true → may_follow forms may (and_lines before (flat_map forms xs)) ys ≡ true
     → may_follow forms may before (xs ++ ys) ≡ true
@@ -45,7 +45,7 @@ may_follow_both forms may (part ∷ xs) ys before on_xs on_ys =
     (may_follow_both forms may xs ys after both.1
     (subst (λ now. may_follow forms may now ys ≡ true) (fold-append and_line before (forms part) (flat_map forms xs)) on_ys))
 
--- Parts that may stand behind whatever is there.
+-- Parts that are allowed after any lines.
 each_follows : {A P : Type 0} (forms : P → List LineForm) (may : Before → P → Bool) (part : A → P)
     → ((one : A) (before : Before) → may before (part one) ≡ true) → (all : List A) (before : Before) → may_follow forms may before (map part all) ≡ true
 each_follows forms may part free [] before = refl
@@ -53,7 +53,7 @@ each_follows forms may part free (one ∷ all) before =
     and_from (may before (part one)) (may_follow forms may (and_lines before (forms (part one))) (map part all)) (free one before)
     (each_follows forms may part free all (and_lines before (forms (part one))))
 
--- A part that may stand there, or none.
+-- An optional part that is allowed there.
 optional_follows : {A P : Type 0} (forms : P → List LineForm) (may : Before → P → Bool) (part : A → P) (given : Option A) (before : Before)
     → ((one : A) → may before (part one) ≡ true) → may_follow forms may before (optional part given) ≡ true
 optional_follows forms may part None before free = refl
@@ -65,7 +65,7 @@ optional_follows forms may part (Some one) before free = and_from (may before (p
 abbrev NonePasses : {P : Type 0} → (LineForm → Bool) → (P → List LineForm) → List P → Type 0
 NonePasses test forms all = list_any test (flat_map forms all) ≡ false
 
--- None does of two lists in a row.
+-- The same for two lists in a row.
 none_of_both : {P : Type 0} (test : LineForm → Bool) (forms : P → List LineForm) (xs ys : List P) → NonePasses test forms xs → NonePasses test forms ys
     → NonePasses test forms (xs ++ ys)
 none_of_both test forms xs ys on_xs on_ys =
@@ -74,7 +74,7 @@ none_of_both test forms xs ys on_xs on_ys =
     ∙ ap (λ told. told || list_any test (flat_map forms ys)) on_xs
     ∙ on_ys
 
--- None does of parts of one kind.
+-- The same for parts of one kind.
 none_of_each : {A P : Type 0} (test : LineForm → Bool) (forms : P → List LineForm) (part : A → P) → ((one : A) → list_any test (forms (part one)) ≡ false)
     → (all : List A) → NonePasses test forms (map part all)
 none_of_each test forms part none [] = refl
@@ -83,7 +83,7 @@ none_of_each test forms part none (one ∷ all) =
     ∙ ap (λ told. told || list_any test (flat_map forms (map part all))) (none one)
     ∙ none_of_each test forms part none all
 
--- None does of a part that may be missing.
+-- The same for a part that may be missing.
 none_of_optional : {A P : Type 0} (test : LineForm → Bool) (forms : P → List LineForm) (part : A → P) → ((one : A) → list_any test (forms (part one)) ≡ false)
     → (given : Option A) → NonePasses test forms (optional part given)
 none_of_optional test forms part none None = refl
@@ -114,7 +114,7 @@ record Declares {A : Type 0} (part : A → UnitPart) : Type 0 where
   no_max : (one : A) (value : Expr) → list_any (are_alike (form.Max value)) (unit_part_forms (part one)) ≡ false
   no_step : (one : A) → list_any (are_alike form.Step) (unit_part_forms (part one)) ≡ false
 
--- Declarations of one kind more.
+-- One more declaration of the kind.
 and_declared : {A : Type 0} (part : A → UnitPart) (all : List A) (start : Before) (front : List UnitPart) → Declares part → IsBare start front
     → IsBare start (front ++ map part all)
 and_declared part all start front declares bare = record {
@@ -139,7 +139,7 @@ resolution_is_bare given start first = record {
   no_step = none_of_optional (are_alike form.Step) unit_part_forms parts.Resolution (λ decimals. refl) given;
 }
 
--- No line of the unit so far is like another.
+-- No line of the unit so far has the keyword of another.
 no_rival_in_unit : (key : LineForm) (start : Before) (front : List UnitPart) → start.in_unit ≡ [] → NonePasses opens_unit unit_part_forms front
     → NonePasses (are_alike key) unit_part_forms front → not (list_any (are_alike key) (and_lines start (flat_map unit_part_forms front)).in_unit) ≡ true
 no_rival_in_unit key start front first no_unit lack =
@@ -147,7 +147,7 @@ no_rival_in_unit key start front first no_unit lack =
     (all_in_unit (flat_map unit_part_forms front) start no_unit ∙ ap (λ lines. lines ++ flat_map unit_part_forms front) first)
     ∙ ap not lack
 
--- What the declarations of a unit are followed by.
+-- The parts that follow the declarations of a unit.
 with_max_and_step : (front : List UnitPart) (start : Before) (limit : Option Expr) (lines : Option (List Line)) → start.in_unit ≡ [] → IsBare start front
     → nat_le (step_depth lines) 16 ≡ true → inside_may_stand start ((front ++ optional parts.Max limit) ++ optional parts.Step lines) ≡ true
 with_max_and_step front start limit lines first bare shallow =
@@ -171,14 +171,15 @@ with_max_and_step front start limit lines first bare shallow =
     step_follows (Some all) before shallow none =
         and_from (unit_part_may_stand before (parts.Step all)) true (and_from (not (has_rival before form.Step)) (is_shallow all) none shallow) refl
 
--- A part that declares a name may stand everywhere in a unit, and begins with other words than those.
+-- A part that declares a name is allowed everywhere in a unit, and begins with other keywords than
+-- those.
 declares : {A : Type 0} (part : A → UnitPart) → ((one : A) (before : Before) → unit_part_may_stand before (part one) ≡ true)
     → ((one : A) → list_any opens_unit (unit_part_forms (part one)) ≡ false)
     → ((one : A) (value : Expr) → list_any (are_alike (form.Max value)) (unit_part_forms (part one)) ≡ false)
     → ((one : A) → list_any (are_alike form.Step) (unit_part_forms (part one)) ≡ false) → Declares part
 declares part free no_unit no_max no_step = record { free = free; no_unit = no_unit; no_max = no_max; no_step = no_step }
 
--- The canonical parts of a unit may stand in it.
+-- The canonical parts of a unit are allowed in it.
 unit_parts_may_stand : (unit : Unit) (start : Before) → start.in_unit ≡ [] → nat_le (step_depth unit.step) 16 ≡ true
     → inside_may_stand start (unit_parts unit) ≡ true
 unit_parts_may_stand unit start first shallow =
@@ -209,9 +210,9 @@ unit_parts_may_stand unit start first shallow =
     (declares parts.HasEventOut (λ x before. refl) (λ x. refl) (λ x value. refl) (λ x. refl)) bare_six in
     with_max_and_step seven start unit.max unit.step first bare_seven shallow
 
--- ---- Lines that stand more than once
+-- ---- Lines that may occur more than once
 
--- Whether any number of such lines may stand in a text.
+-- Whether any number of such lines is allowed in a text.
 abbrev is_common : LineForm → Bool
 is_common (form.Header version) = false
 is_common (form.Stop seconds) = false
@@ -220,7 +221,7 @@ is_common (form.Zero count) = false
 is_common (form.Rows count) = false
 is_common _ = true
 
--- Step lines are common.
+-- Step lines may occur any number of times.
 step_line_is_common : (some : LineForm) → is_step_line some ≡ true → is_common some ≡ true
 step_line_is_common (form.Header version) is = absurd (cc)
 step_line_is_common (form.Stop seconds) is = absurd (cc)
@@ -229,46 +230,46 @@ step_line_is_common (form.Zero count) is = absurd (cc)
 step_line_is_common (form.Rows count) is = absurd (cc)
 step_line_is_common _ is = refl
 
--- Lines of many are common where those of each are.
+-- Lines of several elements may, if those of each may.
 all_common : {A : Type 0} (forms : A → List LineForm) → ((one : A) → list_all is_common (forms one) ≡ true) → (all : List A)
     → list_all is_common (flat_map forms all) ≡ true
 all_common forms common [] = refl
 all_common forms common (one ∷ all) = all_of_two is_common (forms one) (flat_map forms all) (common one) (all_common forms common all)
 
--- Lines of a part of a unit are common.
+-- Lines of a part of a unit may.
 unit_part_is_common : (part : UnitPart) → list_all is_common (unit_part_forms part) ≡ true
 unit_part_is_common (parts.Step lines) =
     all_of_two is_common (flat_map line_forms lines) (form.End ∷ [])
     (all_pass is_step_line is_common step_line_is_common (flat_map line_forms lines) (all_step_lines lines)) refl
 unit_part_is_common _ = refl
 
--- So are those of a unit.
+-- Lines of a unit may.
 unit_is_common : (name : List ℕ) (inside : List UnitPart) → list_all is_common (part_forms (parts.HasUnit name inside)) ≡ true
 unit_is_common name inside = all_of_two is_common (flat_map unit_part_forms inside) (form.End ∷ []) (all_common unit_part_forms unit_part_is_common inside) refl
 
--- Settings are common.
+-- Settings may.
 settings_are_common : (settings : List Setting) → list_all is_common (map form.Setting settings) ≡ true
 settings_are_common [] = refl
 settings_are_common (setting ∷ settings) = settings_are_common settings
 
--- So are the lines of an instance.
+-- The lines of an instance may.
 instance_is_common : (instance : Instance) → list_all is_common (part_forms (parts.HasInstance instance)) ≡ true
 instance_is_common instance = all_of_two is_common (map form.Setting instance.settings) (form.End ∷ []) (settings_are_common instance.settings) refl
 
--- Lines of parts of one kind are common where those of each are.
+-- Lines of parts of one kind may, if those of each may.
 mapped_are_common : {A : Type 0} (part : A → Part) → ((one : A) → list_all is_common (part_forms (part one)) ≡ true) → (all : List A)
     → list_all is_common (flat_map part_forms (map part all)) ≡ true
 mapped_are_common part common [] = refl
 mapped_are_common part common (one ∷ all) =
     all_of_two is_common (part_forms (part one)) (flat_map part_forms (map part all)) (common one) (mapped_are_common part common all)
 
--- Those of two lists in a row are.
+-- Those of two lists in a row may.
 both_are_common : (xs ys : List Part) → list_all is_common (flat_map part_forms xs) ≡ true → list_all is_common (flat_map part_forms ys) ≡ true
     → list_all is_common (flat_map part_forms (xs ++ ys)) ≡ true
 both_are_common xs ys on_xs on_ys = ap (list_all is_common) (flat_map-append part_forms xs ys)
     ∙ all_of_two is_common (flat_map part_forms xs) (flat_map part_forms ys) on_xs on_ys
 
--- Units, instances and wires have common lines alone.
+-- Units, instances and connections have only such lines.
 many_are_common : (units : List Unit) (instances : List Instance) (wires : List Wire)
     → list_all is_common
     (flat_map part_forms ((map (λ unit. parts.HasUnit unit.name (unit_parts unit)) units ++ map parts.HasInstance instances) ++ map parts.Connects wires))
@@ -280,15 +281,16 @@ many_are_common units instances wires =
     (mapped_are_common parts.HasInstance instance_is_common instances))
     (mapped_are_common parts.Connects (λ wire. refl) wires)
 
--- ---- Lines that stand once in a text
+-- ---- Lines that occur at most once in a text
 
--- A line that is like no common one, nor like a header.
+-- A line that begins with another keyword than each line that may occur more than once, and than the
+-- header.
 record IsRare (key : LineForm) : Type 0 where
   rival : (before : Before) → has_rival before key ≡ list_any (are_alike key) before.in_text
   header : (version : ℕ) → are_alike key (form.Header version) ≡ false
   other : (some : LineForm) → is_common some ≡ true → are_alike key some ≡ false
 
--- A `stop` is like a `stop` alone.
+-- A line with the keyword of a `stop` is a `stop`.
 rare-Stop : (seconds : Literal) → IsRare (form.Stop seconds)
 rare-Stop seconds = record { rival = λ before. refl; header = λ version. refl; other = other }
   where
@@ -296,7 +298,7 @@ rare-Stop seconds = record { rival = λ before. refl; header = λ version. refl;
     other (form.Stop value) is = absurd (cc)
     other _ is = refl
 
--- A `longest` is like a `longest` alone.
+-- A line with the keyword of a `longest` is a `longest`.
 rare-Longest : (seconds : Literal) → IsRare (form.Longest seconds)
 rare-Longest seconds = record { rival = λ before. refl; header = λ version. refl; other = other }
   where
@@ -304,7 +306,7 @@ rare-Longest seconds = record { rival = λ before. refl; header = λ version. re
     other (form.Longest value) is = absurd (cc)
     other _ is = refl
 
--- A `zero` is like a `zero` alone.
+-- A line with the keyword of a `zero` is a `zero`.
 rare-Zero : (count : ℕ) → IsRare (form.Zero count)
 rare-Zero count = record { rival = λ before. refl; header = λ version. refl; other = other }
   where
@@ -312,7 +314,7 @@ rare-Zero count = record { rival = λ before. refl; header = λ version. refl; o
     other (form.Zero value) is = absurd (cc)
     other _ is = refl
 
--- A `rows` is like a `rows` alone.
+-- A line with the keyword of a `rows` is a `rows`.
 rare-Rows : (count : ℕ) → IsRare (form.Rows count)
 rare-Rows count = record { rival = λ before. refl; header = λ version. refl; other = other }
   where
@@ -320,18 +322,18 @@ rare-Rows count = record { rival = λ before. refl; header = λ version. refl; o
     other (form.Rows value) is = absurd (cc)
     other _ is = refl
 
--- No common line is like it.
+-- No line that may occur any number of times has its keyword.
 common_lack : (key : LineForm) → IsRare key → (lines : List LineForm) → list_all is_common lines ≡ true → list_any (are_alike key) lines ≡ false
 common_lack key rare [] common = refl
 common_lack key rare (some ∷ lines) common =
     let both = and_parts (is_common some) (list_all is_common lines) common in
     ap (λ told. told || list_any (are_alike key) lines) (rare.other some both.0) ∙ common_lack key rare lines both.1
 
--- None of the lines of parts is like it.
+-- None of the lines of parts has its keyword.
 abbrev Lack : LineForm → List Part → Type 0
 Lack key front = NonePasses (are_alike key) part_forms front
 
--- It has no rival behind the header and such parts.
+-- It has no rival after the header and such parts.
 no_rival : (version : ℕ) (front : List Part) (key : LineForm) → IsRare key → Lack key front
     → not (has_rival (and_lines (headed version) (flat_map part_forms front)) key) ≡ true
 no_rival version front key rare lack =
@@ -344,7 +346,7 @@ no_rival version front key rare lack =
 
 -- ---- A text
 
--- Units whose steps are shallow may stand one behind the other.
+-- Units whose steps are shallow are allowed in a row.
 units_follow : (units : List Unit) (before : Before) → list_all (λ unit. nat_le (step_depth unit.step) 16) units ≡ true
     → parts_may_stand before (map (λ unit. parts.HasUnit unit.name (unit_parts unit)) units) ≡ true
 units_follow [] before shallow = refl
@@ -355,7 +357,7 @@ units_follow (unit ∷ units) before shallow =
     and_from (part_may_stand before part) (parts_may_stand after (map (λ one. parts.HasUnit one.name (unit_parts one)) units))
     (unit_parts_may_stand unit (and_line before (form.Unit unit.name)) refl both.0) (units_follow units after both.1)
 
--- An optional part that stands once, behind parts with no line like its own.
+-- An optional part that may occur once, after parts without a line of its keyword.
 and_once : {A : Type 0} (version : ℕ) (front : List Part) (part : A → Part) (given : Option A) → parts_may_stand (headed version) front ≡ true
     → ((one : A) → part_may_stand (and_lines (headed version) (flat_map part_forms front)) (part one) ≡ true)
     → parts_may_stand (headed version) (front ++ optional part given) ≡ true
@@ -363,7 +365,7 @@ and_once version front part given stands may =
     may_follow_both part_forms part_may_stand front (optional part given) (headed version) stands
     (optional_follows part_forms part_may_stand part given (and_lines (headed version) (flat_map part_forms front)) may)
 
--- The canonical parts of a system with such units may stand behind its header.
+-- The canonical parts of a system with such units are allowed after its header.
 canonical_parts_may_stand : (system : System) → list_all (λ unit. nat_le (step_depth unit.step) 16) system.units ≡ true
     → parts_may_stand (headed system.version) (canonical_parts system) ≡ true
 canonical_parts_may_stand system shallow =

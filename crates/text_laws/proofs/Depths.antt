@@ -1,4 +1,4 @@
--- Lines of a step may stand exactly where their blocks are not too deep.
+-- Lines of a step are allowed exactly where their blocks are not too deep.
 use Rattle.std.proofs.Common.{◌≡◌, ℕ, suc, ◌+◌, Bool, true, false, ◌&&◌, not, nat_le, nat_lt, max, cond, List, [], ◌∷◌, ◌++◌, append_assoc, map, drop, Some}
 use Rattle.std.proofs.Common.{None, refl, ap, sym, subst, ◌∙◌, arith}
 use Rattle.std.specs.List.{count_by, fold, flat_map}
@@ -23,7 +23,7 @@ use Rattle.list_laws.proofs.Truths.{and_true, and_assoc}
 
 -- ---- Lines in a row
 
--- Lines are placed where the first ones are, and the others behind them.
+-- Lines are allowed if the first ones are, and the others after them.
 pub placed_of_two : (before : Before) (xs ys : List LineForm) → are_placed before (xs ++ ys) ≡ (are_placed before xs && are_placed (and_lines before xs) ys)
 placed_of_two before [] ys = refl
 placed_of_two before (x ∷ xs) ys =
@@ -36,11 +36,11 @@ placed_of_two before (x ∷ xs) ys =
 abbrev pub depth_in : List Block → ℕ
 depth_in blocks = count_by is_inner blocks
 
--- Blocks that are so deep have room in these.
+-- Blocks nested this deep have room inside these.
 abbrev pub have_room : List Block → ℕ → Bool
 have_room blocks deep = nat_le (depth_in blocks + deep) 16
 
--- A block of a step in which lines of a step stand.
+-- A block of a step, which may have lines of a step.
 pub record IsStep (before : Before) (blocks : List Block) : Type 0 where
   pub blocks_are : before.open_blocks ≡ blocks
   pub step : in_step blocks ≡ true
@@ -67,37 +67,37 @@ room_for_more blocks depth depths =
 
 -- ---- One line of a step
 
--- A line of a step may stand in a step exactly where its blocks have room.
+-- A line of a step is allowed in a step exactly where its blocks have room.
 record IsDeep (some : Line) : Type 0 where
   placed : (before : Before) (blocks : List Block) → IsStep before blocks → are_placed before (line_forms some) ≡ have_room blocks (line_depth some)
 
--- A line with what is known of it.
+-- A line with its depth, and what is known of it.
 abbrev Deep : Type 0
 Deep = (some : Line) × IsDeep some
 
--- The line alone.
+-- The line of a pair.
 abbrev line_in : Deep → Line
 line_in one = one.0
 
--- The lines of such lines.
+-- The lines of such pairs.
 abbrev forms_in : List Deep → List LineForm
 forms_in lines = joined (map line_forms (map line_in lines))
 
--- How deep they are.
+-- The depth of the deepest.
 abbrev depth_of : List Deep → ℕ
 depth_of lines = deepest (map line_depth (map line_in lines))
 
--- Behind such lines the same blocks are open.
+-- After such lines the same blocks are open.
 left_open : (lines : List Deep) (before : Before) (blocks : List Block) → before.open_blocks ≡ blocks → (and_lines before (forms_in lines)).open_blocks ≡ blocks
 left_open lines before blocks is = blocks_behind before (forms_in lines) ∙ ap (λ all. fold behind all (forms_in lines)) is
     ∙ joined_leave (map line_in lines) blocks
 
--- The same behind one line.
+-- The same after one line.
 line_left_open : (some : Line) (before : Before) (blocks : List Block) → before.open_blocks ≡ blocks
     → (and_lines before (line_forms some)).open_blocks ≡ blocks
 line_left_open some before blocks is = blocks_behind before (line_forms some) ∙ ap (λ all. fold behind all (line_forms some)) is ∙ line_leaves some blocks
 
--- They may stand in a step exactly where the deepest has room.
+-- They are allowed in a step exactly where the deepest has room.
 all_placed : (lines : List Deep) (before : Before) (blocks : List Block) → IsStep before blocks
     → are_placed before (forms_in lines) ≡ have_room blocks (depth_of lines)
 all_placed [] before blocks is = sym is.room
@@ -112,7 +112,8 @@ all_placed (one ∷ lines) before blocks is =
 
 -- ---- Blocks
 
--- The lines of a block, and what stands behind them, of which it is known whether it may stand there.
+-- The lines of a block, and the lines after them, of which it is known whether they are allowed
+-- there.
 block_placed : (lines : List Deep) (rest : List LineForm) (before : Before) (blocks : List Block) (told : Bool) → IsStep before blocks
     → ((after : Before) → after.open_blocks ≡ blocks → are_placed after rest ≡ told)
     → are_placed before (forms_in lines ++ rest) ≡ (have_room blocks (depth_of lines) && told)
@@ -121,7 +122,7 @@ block_placed lines rest before blocks told is behind_them =
     ∙ ap (λ first. first && are_placed (and_lines before (forms_in lines)) rest) (all_placed lines before blocks is)
     ∙ ap (λ last. have_room blocks (depth_of lines) && last) (behind_them (and_lines before (forms_in lines)) (left_open lines before blocks is.blocks_are))
 
--- An `end` may stand where a block is open.
+-- An `end` is allowed where a block is open.
 end_placed : (block : Block) (blocks : List Block) (after : Before) → after.open_blocks ≡ block ∷ blocks → are_placed after (form.End ∷ []) ≡ true
 end_placed block blocks after is = ap (λ all. (not (at_top all) && true) && true) is
 
@@ -138,7 +139,7 @@ one_deeper block blocks deep is =
     ∙ ap (λ told. nat_le ((cond told 1 0 + depth_in blocks) + deep) 16) is
     ∙ ap (λ all. nat_le all 16) (omega arith)
 
--- A line that opens such a block, and what stands behind it there.
+-- A line that opens such a block, and the lines after it there.
 opened_by_room : (told : Bool) (blocks : List Block) (inside : Bool) (deep : ℕ) → nat_lt (depth_in blocks) 16 ≡ told
     → (nat_lt (depth_in blocks) 16 ≡ true → inside ≡ have_room blocks (suc deep)) → (told && inside) ≡ have_room blocks (suc deep)
 opened_by_room true blocks inside deep is within = within is
@@ -154,7 +155,7 @@ record Opens (some : LineForm) (block : Block) : Type 0 where
   step : (blocks : List Block) → in_step (block ∷ blocks) ≡ true
   may_be : (before : Before) → may_stand before some ≡ (in_step before.open_blocks && nat_lt (depth_in before.open_blocks) 16)
 
--- Such a line may stand with what is inside exactly where there is room for one block more.
+-- Such a line with its block is allowed exactly where there is room for one block more.
 opened_placed : (some : LineForm) (block : Block) (lines : List LineForm) (before : Before) (blocks : List Block) (deep : ℕ) → Opens some block
     → IsStep before blocks → (IsStep (and_line before some) (block ∷ blocks) → are_placed (and_line before some) lines ≡ have_room (block ∷ blocks) deep)
     → are_placed before (some ∷ lines) ≡ have_room blocks (suc deep)
@@ -215,7 +216,8 @@ deep-Repeat count body =
           ∙ ap (have_room blocks) (sym (fold-Repeat ℕ block_depth count (map line_in body)));
     }
 
--- `if` with what stands behind its lines, which begins the `else` or is the `end`.
+-- The lines of an `if`, with what follows the lines of its block, which begins the `else` or is the
+-- `end`.
 abbrev if_forms : Expr → List Deep → List LineForm → List LineForm
 if_forms condition then_lines rest = form.If condition ∷ forms_in then_lines ++ rest
 
@@ -235,7 +237,7 @@ deep-IfNone condition then_lines =
           ∙ ap (have_room blocks) (sym depth);
     }
 
--- `else` with its lines and the `end`, behind the lines of an `if`.
+-- `else` with its lines and the `end`, after the lines of an `if`.
 else_placed : (else_lines : List Deep) (blocks : List Block) → have_room (InIf ∷ blocks) 0 ≡ true → (after : Before) → after.open_blocks ≡ InIf ∷ blocks
     → are_placed after (form.Else ∷ forms_in else_lines ++ (form.End ∷ [])) ≡ have_room (InIf ∷ blocks) (depth_of else_lines)
 else_placed else_lines blocks room after is =
@@ -270,7 +272,7 @@ deep-IfElse condition then_lines else_lines =
           ∙ ap (have_room blocks) (sym depth);
     }
 
--- Each line is so where the lines of its blocks are.
+-- This is true of each line, if it is of the lines of its blocks.
 deep_node : (y : Line-F Deep) → IsDeep (roll-Line (map-Line Deep Line line_in y))
 deep_node (Line-F.Assign target value) = subst IsDeep (sym (rolls-Assign target value)) (deep-Assign target value)
 deep_node (Line-F.If condition then_lines None) = subst IsDeep (sym (rolls-If condition (map line_in then_lines) None)) (deep-IfNone condition then_lines)
@@ -279,13 +281,13 @@ deep_node (Line-F.If condition then_lines (Some else_lines)) =
 deep_node (Line-F.Repeat count body) = subst IsDeep (sym (rolls-Repeat count (map line_in body))) (deep-Repeat count body)
 deep_node (Line-F.Accept value) = subst IsDeep (sym (rolls-Accept value)) (deep-Accept value)
 
--- Every line is so.
+-- This is true of every line.
 is_deep : (some : Line) → IsDeep some
 is_deep = ind-Line IsDeep (λ x y is. subst (λ z. IsDeep (roll-Line z)) is (deep_node y))
 
 -- ---- Lines of a step
 
--- They may stand in a step exactly where the deepest has room.
+-- They are allowed in a step exactly where the deepest has room.
 pub lines_placed : (lines : List Line) (before : Before) (blocks : List Block) → IsStep before blocks
     → are_placed before (flat_map line_forms lines) ≡ have_room blocks (deepest (map line_depth lines))
 lines_placed [] before blocks is = sym is.room

@@ -1,4 +1,4 @@
--- Which forms tokens can write, by the first of them.
+-- Which forms tokens can write, by the first of the tokens.
 use Rattle.std.proofs.Common.{◌≡◌, ℕ, true, List, [], ◌∷◌, refl}
 use Rattle.unit_tree.specs.LineForms.{WritesForm, is_of_version_2}
 use Rattle.unit_tree.specs.Phrases.{keyword, whole}
@@ -8,7 +8,7 @@ use Rattle.unit_tree.specs.declared.token.Keyword.TheVariants as word
 use Rattle.unit_tree.specs.declared.token.Token.{Token}
 use Rattle.unit_tree.specs.declared.token.Token.TheVariants as token
 
--- No form is written with no tokens, none with a name alone, and none with a number in front.
+-- No form is written without tokens, by a name alone, or with a number first.
 pub no_tokens : (some : LineForm) → WritesForm some [] → ⊥
 no_tokens (form.Header version) written = absurd (cc written.spelled)
 no_tokens (form.Unit name) written = absurd (cc written.spelled)
@@ -179,7 +179,7 @@ after_unit (form.Zero count) said written = absurd (cc written.spelled)
 after_unit (form.Rows count) said written = absurd (cc written.spelled)
 after_unit (form.Sample port) said written = absurd (cc written.spelled)
 
--- `event` begins the lines of event ports alone.
+-- Only the lines of event ports begin with `event`.
 pub after_event : (some : LineForm) (rest : List Token) → WritesForm some (keyword word.Event ∷ rest) → is_of_version_2 some ≡ true
 after_event (form.Header version) rest written = absurd (cc written.spelled)
 after_event (form.Unit name) rest written = absurd (cc written.spelled)

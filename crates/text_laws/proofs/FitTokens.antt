@@ -46,7 +46,7 @@ use Rattle.text_tokens.specs.Scanning.{keyword_of}
 use Rattle.text_tokens.proofs.TableLemmas.{keyword_of_none}
 use Rattle.list_laws.proofs.Lists.{each_part, each_append}
 
--- ---- What fits
+-- ---- Tokens that fit
 
 -- A name is one, and a number has no more digits and decimals than the language allows.
 abbrev pub IsFit : Token → Type 0
@@ -87,11 +87,11 @@ operation_fits by.Or = _
 operation_fits by.Min = _
 operation_fits by.Max = _
 
--- So do tokens that fit in parentheses.
+-- Tokens that fit do in parentheses.
 parens_fit : (inner : List Token) → AreFit inner → AreFit (in_parens inner)
 parens_fit inner fit = (_, both_fit inner (symbol sign.Close ∷ []) fit _)
 
--- So do two lists of tokens with one between them.
+-- So do two lists of tokens with a token between them.
 between_fit : (left right : List Token) (between : Token) → IsFit between → AreFit left → AreFit right → AreFit (left ++ (between ∷ right))
 between_fit left right between middle first second = both_fit left (between ∷ right) first (middle, second)
 
@@ -134,7 +134,7 @@ binary_fit by.Ge left right first second = between_fit left right (operation by.
 binary_fit by.And left right first second = between_fit left right (operation by.And) _ first second
 binary_fit by.Or left right first second = between_fit left right (operation by.Or) _ first second
 
--- Parentheses change nothing in this.
+-- Parentheses don't change this.
 placed_by : (allowed : Bool) (inner : Phrase) → AreFit (phrase_tokens inner) → AreFit (phrase_tokens (cond allowed inner (phrase.Parens inner)))
 placed_by true inner fit = fit
 placed_by false inner fit = parens_fit (phrase_tokens inner) fit
@@ -154,19 +154,19 @@ record IsPlain (value : Expr) : Type 0 where
   ranged : is_ranged value ≡ true
   unsigned : is_unsigned value ≡ true
 
--- The tokens of an expression that is plain fit.
+-- The tokens of an expression fit, if it has such names and numbers.
 abbrev Claim : Expr → Type 0
 Claim value = IsPlain value → AreFit (expression_tokens value)
 
--- An expression of which this is proved.
+-- An expression for which this is proved.
 abbrev Proved : Type 0
 Proved = (value : Expr) × Claim value
 
--- The expression alone.
+-- The expression of a pair.
 abbrev bare : Proved → Expr
 bare value = value.0
 
--- It holds of a number.
+-- It is true for a number.
 fit-Number : (number : ℤ) (decimals : ℕ) → Claim (expr.Number number decimals)
 fit-Number number decimals is =
     let few : nat_le decimals 9 ≡ true = sym (fold-Number Bool node_is_ranged number decimals) ∙ is.ranged in
@@ -174,19 +174,19 @@ fit-Number number decimals is =
     subst (λ p. AreFit (phrase_tokens p)) (sym (fold-Number Phrase node_phrase number decimals))
     ((magnitude_fits number fits.1, (few_decimals decimals few).1), _)
 
--- It holds of a name.
+-- It is true for a name.
 fit-Var : (name : List ℕ) → Claim (expr.Var name)
 fit-Var name is =
     let names = subst AreNames (fold-Var (List (List ℕ)) node_names name) is.names in
     subst (λ p. AreFit (phrase_tokens p)) (sym (fold-Var Phrase node_phrase name)) (names.0, _)
 
--- It holds of `present`.
+-- It is true for `present`.
 fit-Present : (name : List ℕ) → Claim (expr.Present name)
 fit-Present name is =
     let names = subst AreNames (fold-Present (List (List ℕ)) node_names name) is.names in
     subst (λ p. AreFit (phrase_tokens p)) (sym (fold-Present Phrase node_phrase name)) (_, parens_fit (token.Name name ∷ []) (names.0, _))
 
--- It holds of an operation on one operand.
+-- It is true for an operation on one operand.
 fit-Unary : (op : UnOp) (arg : Expr) → Claim arg → Claim (expr.Unary op arg)
 fit-Unary op arg given is =
     let ranged = and_parts (unary_is_ranged op) (is_ranged arg) (sym (fold-Unary Bool node_is_ranged op arg) ∙ is.ranged) in
@@ -201,7 +201,7 @@ fit-Unary op arg given is =
     subst (λ p. AreFit (phrase_tokens p)) (sym (fold-Unary Phrase node_phrase op arg))
     (unary_fit op (phrase_tokens inner) ranged.0 (placed_fit (operand_level (unary_level op)) (canonical_phrase arg) fit))
 
--- The two parts of what is plain are.
+-- Both parts have such names and numbers where the whole has.
 two_plain : (left right : Expr) → AreNames (names_in left ++ names_in right) → (is_ranged left && is_ranged right) ≡ true
     → (is_unsigned left && is_unsigned right) ≡ true → IsPlain left × IsPlain right
 two_plain left right names ranged unsigned =
@@ -210,7 +210,7 @@ two_plain left right names ranged unsigned =
     let u = and_parts (is_unsigned left) (is_unsigned right) unsigned in
     (record { names = n.0; ranged = r.0; unsigned = u.0 }, record { names = n.1; ranged = r.1; unsigned = u.1 })
 
--- It holds of an operation on two operands.
+-- It is true for an operation on two operands.
 fit-Binary : (op : BinOp) (left right : Expr) → Claim left → Claim right → Claim (expr.Binary op left right)
 fit-Binary op left right on_left on_right is =
     let plain =
@@ -222,7 +222,7 @@ fit-Binary op left right on_left on_right is =
     (binary_fit op (phrase_tokens (placed (left_level (binary_level op)) (canonical_phrase left)))
     (phrase_tokens (placed (right_level (binary_level op)) (canonical_phrase right))) first second)
 
--- The three parts of what is plain are.
+-- All three parts have such names and numbers where the whole has.
 three_plain : (one two three : Expr) → AreNames (names_in one ++ names_in two ++ names_in three)
     → (is_ranged one && (is_ranged two && is_ranged three)) ≡ true → (is_unsigned one && (is_unsigned two && is_unsigned three)) ≡ true
     → IsPlain one × IsPlain two × IsPlain three
@@ -234,7 +234,7 @@ three_plain one two three names ranged unsigned =
     let others = two_plain two three n.1 r.1 u.1 in
     (record { names = n.0; ranged = r.0; unsigned = u.0 }, others.0, others.1)
 
--- It holds of `clamp`.
+-- It is true for `clamp`.
 fit-Clamp : (value low high : Expr) → Claim value → Claim low → Claim high → Claim (expr.Clamp value low high)
 fit-Clamp value low high on_value on_low on_high is =
     let plain =
@@ -244,7 +244,7 @@ fit-Clamp value low high on_value on_low on_high is =
     subst (λ p. AreFit (phrase_tokens p)) (sym (fold-Clamp Phrase node_phrase value low high))
     (_, call_fit (expression_tokens value) (expression_tokens low ++ (symbol sign.Comma ∷ expression_tokens high)) (on_value plain.0) bounds)
 
--- It holds of a choice.
+-- It is true for a choice.
 fit-Choose : (condition chosen other : Expr) → Claim condition → Claim chosen → Claim other → Claim (expr.Choose condition chosen other)
 fit-Choose condition chosen other on_condition on_chosen on_other is =
     let plain =
@@ -258,7 +258,7 @@ fit-Choose condition chosen other on_condition on_chosen on_other is =
           (on_condition plain.0) branches,
     )
 
--- It holds of each node where it holds of the parts.
+-- It is true for each node, if it is for its parts.
 node : (y : Expr-F Proved) → Claim (roll-Expr (map-Expr Proved Expr bare y))
 node (Expr-F.Number number decimals) = subst Claim (sym (rolls-Number number decimals)) (fit-Number number decimals)
 node (Expr-F.Truth told) = subst Claim (sym (rolls-Truth told)) (λ is. subst (λ p. AreFit (phrase_tokens p)) (sym (fold-Truth Phrase node_phrase told)) _)
@@ -275,11 +275,11 @@ node (Expr-F.Choose condition then_part else_part) =
 node Expr-F.Absent = subst Claim (sym rolls-Absent) (λ is. subst (λ p. AreFit (phrase_tokens p)) (sym (fold-Absent Phrase node_phrase)) _)
 node (Expr-F.Present name) = subst Claim (sym (rolls-Present name)) (fit-Present name)
 
--- It holds of every expression.
+-- It is true for every expression.
 expression_fits : (value : Expr) → IsPlain value → AreFit (expression_tokens value)
 expression_fits = ind-Expr Claim (λ x y is. subst (λ z. Claim (roll-Expr z)) is (node y))
 
--- ---- Fronts
+-- ---- The first tokens of a line
 
 -- The tokens of a type fit: its name is not reserved.
 type_fits : (ty : Ty) → AreDecimals ty → AreFit (type_tokens ty)
@@ -298,7 +298,7 @@ type_fits (types.Fixed decimals) few = (((refl, refl, omega arith), keyword_of_n
 declaration_fits : (declared : Keyword) (name : List ℕ) (ty : Ty) → IsName name → AreDecimals ty → AreFit (declaration declared name ty)
 declaration_fits declared name ty is_name few = (_, (is_name, (_, type_fits ty few)))
 
--- They fit with `=` behind them.
+-- They fit with `=` after them.
 given_fits : (declared : Keyword) (name : List ℕ) (ty : Ty) → IsName name → AreDecimals ty → AreFit (declaration declared name ty ++ equals)
 given_fits declared name ty is_name few = both_fit (declaration declared name ty) equals (declaration_fits declared name ty is_name few) _
 
@@ -308,19 +308,19 @@ names_fit [] are = _
 names_fit (name ∷ []) are = (are.0, _)
 names_fit (name ∷ next ∷ names) are = (are.0, (_, names_fit (next ∷ names) are.1))
 
--- The names of what is needed fit, with their keyword.
+-- The names in the needs fit, with their keyword.
 needs_fit : (names : List (List ℕ)) → AreNames names → AreFit (needs_tokens names)
 needs_fit [] are = _
 needs_fit (name ∷ names) are = (_, names_fit (name ∷ names) are)
 
--- The tokens of a declaration with what it needs fit.
+-- The tokens of a declaration with its needs fit.
 needing_fits : (declared : Keyword) (name : List ℕ) (ty : Ty) (needs : List (List ℕ)) → IsName name → AreNames needs → AreDecimals ty
     → AreFit (declaration declared name ty ++ needs_tokens needs ++ equals)
 needing_fits declared name ty needs is_name are few =
     let front = declaration declared name ty in
     both_fit (front ++ needs_tokens needs) equals (both_fit front (needs_tokens needs) (declaration_fits declared name ty is_name few) (needs_fit needs are)) _
 
--- The tokens in front of a literal or an expression fit.
+-- The tokens before a literal or an expression fit.
 front_fits : (some : LineForm) → AreNames (names_said some) → AreCountsInRange some → AreFit (front_tokens some)
 front_fits (form.Header version) names counts = (_, (whole_fits version (omega (arith, counts.1)), _))
 front_fits (form.Unit name) names counts = (_, (names.0, _))

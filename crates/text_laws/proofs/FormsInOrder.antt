@@ -1,4 +1,4 @@
--- The canonical lines of what parts say are the lines of the parts, each once.
+-- The canonical lines of the system of some parts are the lines of the parts, each once.
 use Rattle.std.proofs.Common.{◌≡◌, ℕ, Bool, true, false, cond, List, [], ◌∷◌, ◌++◌, map, length, take, drop, get_or, IsTrue, refl, ap, sym, subst, ◌∙◌}
 use Rattle.std.specs.Prelude.{◌==◌}
 use Rattle.std.specs.List.{AllByRecursion, filter, flat_map, range_with_len}
@@ -17,13 +17,13 @@ use Rattle.unit_tree.specs.declared.line_form.LineForm.TheVariants as form
 use Rattle.language_laws.proofs.RankLaws.{each_once}
 use Rattle.language_laws.proofs.SourceLaws.{forms_are}
 
--- ---- What goes along with lines is put into order as they are
+-- ---- A list with an element for each line is sorted as the lines are
 
--- Other entries in place of those of ranked lists.
+-- Ranked lists, with their entries changed.
 abbrev relisted : {A B : Type 0} → (A → B) → List (ℕ × List A) → List (ℕ × List B)
 relisted f lists = map (λ one. (one.0, map f one.1)) lists
 
--- With whether the first list has the rank.
+-- By whether the first list has the rank.
 of_rank_by : {A B : Type 0} (f : A → B) (told : Bool) (rank : ℕ) (list : List A) (ours : List (ℕ × List B)) (others : List (ℕ × List A))
     → flat_map (λ one. one.1) ours ≡ map f (flat_map (λ one. one.1) others)
     → flat_map (λ one. one.1) (cond told ((rank, map f list) ∷ ours) ours) ≡ map f (flat_map (λ one. one.1) (cond told ((rank, list) ∷ others) others))
@@ -99,7 +99,7 @@ order_map f all lines =
 
 -- ---- Forms
 
--- Lines of parts that stand where they may are the canonical lines in another order.
+-- Lines of parts that are where they are allowed are the canonical lines in another order.
 pub forms_in_order : (version : ℕ) (all : List Part) → IsTrue (are_placed no_lines (text_forms version all))
     → IsPermutation (canonical_forms (system_of version all)) (text_forms version all)
 forms_in_order version all placed =
@@ -113,7 +113,7 @@ forms_in_order version all placed =
     (subst (IsPermutation (map at (in_canonical_order all numbers))) (sym each)
     (IsPermutation-map at (in_canonical_order all numbers) numbers (each_once version all numbers (length-range_with_len 0 (length forms)))))
 
--- What holds of each line of the parts holds of each canonical line.
+-- A property of each line of the parts is one of each canonical line.
 pub each_in_order : (P : LineForm → Type 0) (version : ℕ) (all : List Part) → IsTrue (are_placed no_lines (text_forms version all))
     → AllByRecursion P (text_forms version all) → AllByRecursion P (canonical_forms (system_of version all))
 each_in_order P version all placed holds =

@@ -11,7 +11,7 @@ use Rattle.unit_tree.specs.declared.line_form.LineForm.{LineForm}
 use Rattle.unit_tree.specs.declared.system.System.{System}
 use Rattle.language_laws.proofs.NameLaws.{Hold}
 
--- Whether a line keeps rules, and that it keeps all.
+-- Whether a line keeps some rules, and whether it keeps all.
 abbrev pub keeps : List Rule → System → Site → Bool
 keeps judged system site = list_all (λ rule. not (rule.breaks system site)) judged
 
@@ -24,7 +24,7 @@ all_told system (site ∷ all) told =
     let both = and_parts (keeps rules system site) (list_all (keeps rules system) all) told in
     (both.0, all_told system all both.1)
 
--- Where no line breaks a rule none is numbered.
+-- Where no line breaks a rule, no number is given.
 pub no_number : (breaks : Site → Bool) (number : ℕ) (all : List Site) → AllByRecursion (λ site. breaks site ≡ false) all
     → filter_map (number_where breaks) (enumerate_from number all) ≡ []
 no_number breaks number [] keep = refl
@@ -45,7 +45,7 @@ breaks_none (first ∷ later) system keep =
 pub well_formed : (system : System) → AllByRecursion (Keeps system) (sites_of system) → IsWellFormed system
 well_formed system keep = breaks_none rules system keep
 
--- Lines with their blocks, one after the other.
+-- Lines with their blocks, in their order.
 pub all_hold : (P : Site → Type 0) (scope : Scope) (earlier : List LineForm) (headed : List Headed) → Hold P scope earlier headed
     → AllByRecursion P (sites scope earlier headed)
 all_hold P scope earlier [] hold = tt

@@ -1,4 +1,4 @@
--- The canonical phrase of what is written is nested no deeper, and has its numbers.
+-- The canonical phrase of a phrase is nested no deeper, and has the same numbers.
 use Rattle.std.proofs.Common.{◌≡◌, ℕ, suc, ◌≤◌, ◌^◌, Bool, true, false, not, cond, ◌&&◌, pos, nat_lt, nat_le, max, List, IsTrue, refl, ap, sym, subst, ◌∙◌}
 use Rattle.std.proofs.Common.{arith}
 use Rattle.std.specs.Int.{is_negative}
@@ -26,11 +26,11 @@ use Rattle.list_laws.proofs.Truths.{crossed}
 
 -- ---- Nesting
 
--- In every place where a phrase may stand, the canonical one of its tree is nested no deeper.
+-- In every place where a phrase is allowed, the canonical phrase of its tree is nested no deeper.
 abbrev Claim : Phrase → Type 0
 Claim written = (asked : Level) → stands asked written ≡ true → nesting (placed asked (again written)) ≤ nesting written
 
--- A phrase is placed as it is where its level is allowed.
+-- A phrase is placed unchanged where its level is allowed.
 placed_bare : (asked : Level) (canonical : Phrase) (deep : ℕ) → allows asked (level_of canonical) ≡ true → nesting canonical ≤ deep
     → nesting (placed asked canonical) ≤ deep
 placed_bare asked canonical deep allowed within = rw allowed within
@@ -43,23 +43,23 @@ leaf written is primary asked so = rw is (placed_bare asked written (nesting wri
 on_whole : (written : Phrase) → Claim written → stands Whole written ≡ true → nesting (again written) ≤ nesting written
 on_whole written given so = subst (λ canonical. nesting canonical ≤ nesting written) (placed_whole (again written)) (given Whole so)
 
--- What was written in parentheses has them again at most.
+-- A phrase in parentheses has at most these again.
 placed_parens : (allowed : Bool) (canonical : Phrase) (deep : ℕ) → nesting canonical ≤ deep
     → nesting (cond allowed canonical (phrase.Parens canonical)) ≤ suc deep
 placed_parens true canonical deep within = omega (arith, within)
 placed_parens false canonical deep within = omega (arith, within)
 
--- The deeper of two.
+-- The greater of two depths.
 deeper_within : (one other written written_too : ℕ) → one ≤ written → other ≤ written_too → max one other ≤ max written written_too
 deeper_within one other written written_too within within_too = omega (arith, within, within_too)
 
--- An operation nests a deeper operand no less.
+-- An operation with a deeper operand is nested no less deep.
 binary_within : (op : BinOp) (canonical written : ℕ) → canonical ≤ written → binary_nesting op canonical ≤ binary_nesting op written
 binary_within by.Min canonical written within = omega (arith, within)
 binary_within by.Max canonical written within = omega (arith, within)
 binary_within _ canonical written within = within
 
--- The canonical operand stands in its place no deeper, and so the operation does.
+-- The canonical operand is nested no deeper in its place, and so is the operation.
 on_unary : (op : UnOp) (arg : Phrase) → Claim arg → Claim (phrase.Unary op arg)
 on_unary op arg given asked so =
     let level = operand_level (unary_level op) in
@@ -132,23 +132,23 @@ nests_less (phrase.Choose condition then_part else_part) =
 nests_less phrase.Absent = leaf phrase.Absent (fold-Absent Phrase node_phrase) refl
 nests_less (phrase.Present name) = leaf (phrase.Present name) (fold-Present Phrase node_phrase name) refl
 
--- The canonical phrase of what stands in a place is nested there no deeper than what is written.
+-- The canonical phrase in a place is nested there no deeper than the phrase that is written.
 pub canonical_nests_less : (asked : Level) (written : Phrase) → IsTrue (stands asked written)
     → nesting (placed asked (canonical_phrase (tree_of written))) ≤ nesting written
 canonical_nests_less asked written so = nests_less written asked so
 
 -- ---- Numbers
 
--- The numbers of a phrase are words that its tree has without a sign, of few decimals.
+-- The numbers of a phrase are words that its tree has without a sign, with at most nine decimals.
 abbrev NumbersAre : Phrase → Type 0
 NumbersAre written = numbers_fit written ≡ (is_unsigned (tree_of written) && is_ranged (tree_of written))
 
--- What two parts tell, and what three tell.
+-- The tests of two parts, and of three.
 two_are : (one other : Bool) (first second first_too second_too : Bool) → one ≡ (first && first_too) → other ≡ (second && second_too)
     → (one && other) ≡ ((first && second) && (first_too && second_too))
 two_are one other first second first_too second_too is is_too = rw (is, is_too) (crossed first first_too second second_too)
 
--- With the tests of the parts in place of those of the whole.
+-- With the tests of the parts instead of those of the whole.
 told_by : (fits unsigned ranged unsigned_parts ranged_parts : Bool) → unsigned ≡ unsigned_parts → ranged ≡ ranged_parts
     → fits ≡ (unsigned_parts && ranged_parts) → fits ≡ (unsigned && ranged)
 told_by fits unsigned ranged unsigned_parts ranged_parts is is_too same = rw (is, is_too) same
@@ -216,7 +216,8 @@ canonical_numbers_fit value unsigned ranged =
 
 -- ---- Expressions
 
--- What is known of an expression that tokens write: it can be written again, and its numbers have few decimals.
+-- What is known of an expression that tokens write: it has a canonical phrase, and its numbers have at most
+-- nine decimals.
 pub record IsWritten (value : Expr) : Type 0 where
   pub writable : is_writable (OfExpression value) ≡ true
   pub ranged : is_ranged value ≡ true
@@ -233,6 +234,6 @@ tree_is_written written is =
       ranged = numbers.1;
     }
 
--- What tokens write can be written again.
+-- An expression that tokens write has a canonical phrase.
 pub expression_is_written : (value : Expr) (tokens : List Token) → Writes value tokens → IsWritten value
 expression_is_written value tokens writes = subst IsWritten writes.is_tree (tree_is_written writes.phrase writes.is_grammatical)

@@ -1,4 +1,4 @@
--- What the lines of a printable system are, where it has no events, and how long its numbers are.
+-- The lines of a printable system, the case without events, and how long its numbers are.
 use Rattle.std.proofs.Common.{◌≡◌, ℕ, suc, ◌+◌, ◌-◌, ◌*◌, ◌^◌, ◌<◌, ◌≤◌, true, false, List, [], ◌∷◌, ◌++◌, length, take, drop, replicate}
 use Rattle.std.proofs.Common.{refl, arith}
 use Rattle.std.specs.Prelude.{nat_le}
@@ -19,7 +19,7 @@ use Rattle.unit_tree.specs.declared.line_form.LineForm.{LineForm}
 
 -- ---- One line
 
--- What a line of a printable system is, where it has no events.
+-- What is known of a line of a printable system without events.
 pub record Prints (line : LineForm) : Type 0 where
   pub names : AllByRecursion IsName (names_on line)
   pub in_range : IsInRange line
@@ -62,7 +62,7 @@ pointed_within : (fraction : List ℕ) → length (pointed fraction) ≤ suc (le
 pointed_within [] = omega arith
 pointed_within (digit ∷ fraction) = omega arith
 
--- A whole number of so many digits at most.
+-- A whole number of at most this many digits.
 pub fixed_short : (most n : ℕ) → 1 ≤ most → n < 10 ^ most → n < 2 ^ 64 → length (fixed_text 0 n) ≤ most + 3
 fixed_short most n some small fits =
     let text = decimal n in

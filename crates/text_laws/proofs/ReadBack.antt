@@ -1,4 +1,4 @@
--- The canonical text of a system that can be printed is read as this system.
+-- The canonical text of a printable system is read as this system.
 use Rattle.std.proofs.Common.{◌≡◌, ◌≤◌, ℕ, nat_le, List, [], ◌∷◌, map, length, ◌⊎◌, inl, inr, IsTrue, IsFalse, refl, ap, sym, subst, ◌∙◌, arith}
 use Rattle.std.specs.List.{AllByRecursion, AllZip, list_all, list_any}
 use Rattle.std.proofs.lemmas.Bool.{and_parts, or_parts, true≢false}
@@ -36,7 +36,7 @@ all_have_forms (some ∷ forms) spelled ranged writable =
 
 -- ---- Versions
 
--- A text of version 2 begins so.
+-- A text of version 2 begins with its header.
 of_version_2 : (text : List (List ℕ)) (forms : List LineForm) → AllByRecursion HasItsForm forms → BeginsVersion2 text
     → AllByRecursion (λ some. HasFormIn text some (line_text some)) forms
 of_version_2 text [] have begins = _
@@ -62,7 +62,7 @@ begins_so system is have = record {
   is_header = subst (λ version. HasForm (form.Header version) (line_text (form.Header system.version))) is have.0;
 }
 
--- Each has it in the canonical text.
+-- Each line has its form in the canonical text.
 all_have_forms_in : (system : System) → IsPrintable system → AllByRecursion HasItsForm (canonical_forms system)
     → AllByRecursion (λ some. HasFormIn (map line_text (canonical_forms system)) some (line_text some)) (canonical_forms system)
 all_have_forms_in system printable have =
@@ -80,7 +80,7 @@ texts_have_forms : (text : List (List ℕ)) (forms : List LineForm) → AllByRec
 texts_have_forms text [] have = _
 texts_have_forms text (some ∷ forms) have = (have.0, texts_have_forms text forms have.1)
 
--- Its parts, its lines, their places and their lengths are those of a text that says the system.
+-- Its parts, its lines, their places and their lengths are those of a text that has the system.
 pub read_back : CanonicalTextIsReadBack
 read_back system printable =
     let forms = canonical_forms system in

@@ -1,4 +1,4 @@
--- What a text says has a canonical text, and is in range.
+-- The system of a text has a canonical text, and is in range.
 use Rattle.std.proofs.Common.{◌≡◌, ℕ, ◌+◌, ◌≤◌, Bool, true, false, cond, not, nat_le, ◌==◌, List, [], ◌∷◌, ◌++◌, map, length, length-append, IsTrue, refl, ap}
 use Rattle.std.proofs.Common.{sym, subst, ◌∙◌, arith}
 use Rattle.std.specs.Prelude.{◌||◌}
@@ -34,7 +34,7 @@ use Rattle.list_laws.proofs.Lists.{each_so}
 abbrev is_written : List ℕ → Bool
 is_written line = not (is_blank_line line)
 
--- ---- Each of many
+-- ---- Lists and tests
 
 -- All pass a test where each does.
 all_tell : {A : Type 0} (test : A → Bool) (xs : List A) → AllByRecursion (λ x. test x ≡ true) xs → list_all test xs ≡ true
@@ -46,13 +46,13 @@ none_tells : {A : Type 0} (test : A → Bool) (xs : List A) → AllByRecursion (
 none_tells test [] all = refl
 none_tells test (x ∷ xs) all = ap (λ told. told || list_any test xs) all.0 ∙ none_tells test xs all.1
 
--- With whether the first line is kept.
+-- By whether the first line is kept.
 kept_by : (told : Bool) (test : List ℕ → Bool) (line : List ℕ) (kept : List (List ℕ)) → test line ≡ true → list_all test kept ≡ true
     → list_all test (cond told (line ∷ kept) kept) ≡ true
 kept_by true test line kept here rest = and_from (test line) (list_all test kept) here rest
 kept_by false test line kept here rest = rest
 
--- Lines that are kept pass a test that all pass.
+-- Lines that are kept pass a test that all lines pass.
 all_kept : (test keep : List ℕ → Bool) (lines : List (List ℕ)) → list_all test lines ≡ true → list_all test (filter keep lines) ≡ true
 all_kept test keep [] all = refl
 all_kept test keep (line ∷ lines) all =
@@ -61,7 +61,7 @@ all_kept test keep (line ∷ lines) all =
 
 -- ---- The header
 
--- A line has no two headers of different versions.
+-- A line is not a header of two different versions.
 headers_are_same : (line : List ℕ) (version by : ℕ) → HasForm (form.Header version) line → HasForm (form.Header by) line → version ≡ by
 headers_are_same line version by one other =
     let same = sym one.written.spelled ∙ spells_one one.tokens other.tokens (code_of line) one.spelled other.spelled ∙ other.written.spelled in
@@ -72,7 +72,7 @@ header_is_written : (line : List ℕ) (version : ℕ) → HasForm (form.Header v
 header_is_written line version has =
     ap not (not_blank has.tokens (code_of line) (is_blank_line line) refl (ap (starts_with (λ first. true)) has.written.spelled) has.spelled)
 
--- Of blank lines none is left.
+-- Of blank lines none is kept.
 pub none_written : (lines : List (List ℕ)) → list_all is_blank_line lines ≡ true → filter is_written lines ≡ []
 none_written [] blank = refl
 none_written (line ∷ lines) blank =
@@ -108,14 +108,14 @@ record IsGood (version : ℕ) (some : LineForm) : Type 0 where
   short : nat_le (length (line_text some)) line_limit ≡ true
   of_version : version ≡ 1 → is_of_version_2 some ≡ false
 
--- A canonical line is short enough where the line is that it came from.
+-- A canonical line is short enough if the line that it came from is.
 short_too : (some : LineForm) (line : List ℕ) → HasForm some line → nat_le (length line) line_limit ≡ true → nat_le (length (line_text some)) line_limit ≡ true
 short_too some line has short = within (length (line_text some)) (length line) (shortest some line has) short
   where
     within : (canonical written : ℕ) → canonical ≤ written → nat_le written line_limit ≡ true → nat_le canonical line_limit ≡ true
     within canonical written less short = grind (arith, nat_tests)
 
--- Each form of a text is so.
+-- This is known of each form of a text.
 all_are_good : (text : List (List ℕ)) (version : ℕ) → (BeginsVersion2 text → version ≡ 2) → (forms : List LineForm) (written : List (List ℕ))
     → AllZip (HasFormIn text) forms written → list_all (λ line. nat_le (length line) line_limit) written ≡ true → AllByRecursion (IsGood version) forms
 all_are_good text version begins [] written have short = _
@@ -140,7 +140,7 @@ ended some = line_text some ++ (10 ∷ [])
 abbrev size : List ℕ → ℕ
 size line = length line + 1
 
--- Canonical lines take no more than the lines that they came from.
+-- Canonical lines take no more bytes than the lines that they came from.
 forms_within : (text : List (List ℕ)) (forms : List LineForm) (written : List (List ℕ)) → AllZip (HasFormIn text) forms written
     → sum_by (λ some. length (ended some)) forms ≤ sum_by size written
 forms_within text [] [] have = omega arith
@@ -151,13 +151,13 @@ forms_within text (some ∷ forms) (line ∷ written) have =
     let here = shortest some line have.0.has_form in
     omega (arith, rest, here, length-append (line_text some) (10 ∷ []), sum_by-cons (λ one. length (ended one)) some forms, sum_by-cons size line written)
 
--- With whether the first line is kept.
+-- By whether the first line is kept.
 kept_within_by : (told : Bool) (line : List ℕ) (kept lines : List (List ℕ)) → sum_by size kept ≤ sum_by size lines
     → sum_by size (cond told (line ∷ kept) kept) ≤ sum_by size (line ∷ lines)
 kept_within_by true line kept lines less = omega (arith, less, sum_by-cons size line kept, sum_by-cons size line lines)
 kept_within_by false line kept lines less = omega (arith, less, sum_by-cons size line lines)
 
--- The lines that are kept take no more than all.
+-- The lines that are kept take no more bytes than all lines.
 kept_within : (keep : List ℕ → Bool) (lines : List (List ℕ)) → sum_by size (filter keep lines) ≤ sum_by size lines
 kept_within keep [] = omega arith
 kept_within keep (line ∷ lines) = kept_within_by (keep line) line (filter keep lines) lines (kept_within keep lines)
@@ -173,7 +173,7 @@ return_within [] = omega arith
 return_within (byte ∷ []) = last_within (byte == 13) byte
 return_within (byte ∷ next ∷ line) = let rest = return_within (next ∷ line) in omega (arith, rest)
 
--- Lines without their CRs take no more.
+-- Lines without their CRs take no more bytes.
 returns_within : (lines : List (List ℕ)) → sum_by size (map without_return lines) ≤ sum_by size lines
 returns_within [] = omega arith
 returns_within (line ∷ lines) =
@@ -182,7 +182,7 @@ returns_within (line ∷ lines) =
 
 -- ---- A text
 
--- The canonical text of what a text says is no longer than this text.
+-- The canonical text of a text's system is no longer than this text.
 text_within : (text : List ℕ) (version : ℕ) (all : List Part) → HaveForms (source_lines text) (text_forms version all) (source_lines text)
     → IsTrue (are_placed no_lines (text_forms version all)) → length (canonical_text (system_of version all)) ≤ size_of text
 text_within text version all have placed =
@@ -201,7 +201,8 @@ no_event_port (form.EventInput event) is = absurd (cc)
 no_event_port (form.EventOutput event) is = absurd (cc)
 no_event_port _ is = refl
 
--- Each canonical line keeps what the line kept that it came from, and all together take no more.
+-- Each canonical line keeps what the line that it came from keeps, and all together take no more
+-- bytes.
 pub read_is_printable : WhatIsReadIsPrintable
 read_is_printable text system reads =
     let lines = source_lines text in

@@ -1,4 +1,4 @@
--- How a text is shown to be refused: its first broken line, with the least rule that it breaks.
+-- How a text is proved to be refused: its first broken line, with the least rule that it breaks.
 use Rattle.std.proofs.Common.{◌≡◌, ℕ, suc, ◌<◌, ◌≤◌, List, [], ◌∷◌, ◌++◌, append_assoc, length, ◌⊎◌, inl, inr, refl, ap, sym, subst, ◌∙◌, arith, true, false}
 use Rattle.std.specs.Prelude.{IsTrue, ⊤}
 use Rattle.std.specs.List.{list_all}
@@ -18,7 +18,7 @@ by_rule text rule before line (inr (inr (inl broken))) on_byte on_length on_form
 by_rule text rule before line (inr (inr (inr (inl broken)))) on_byte on_length on_form on_place on_header = on_place broken.0 broken.1
 by_rule text rule before line (inr (inr (inr (inr broken)))) on_byte on_length on_form on_place on_header = on_header broken.0 broken.1
 
--- No rule is broken by a line behind others.
+-- No rule is broken by a line after others.
 abbrev pub IsUnbroken : List (List ℕ) → List (List ℕ) → List ℕ → Type 0
 IsUnbroken text before line = (rule : ℕ) → LineBreaks text rule before line → ⊥
 
@@ -26,7 +26,7 @@ abbrev pub AreUnbroken : List (List ℕ) → List (List ℕ) → List (List ℕ)
 AreUnbroken text before [] = ⊤
 AreUnbroken text before (line ∷ lines) = IsUnbroken text before line × AreUnbroken text (before ++ (line ∷ [])) lines
 
--- Every rule that a line breaks is at least this one.
+-- This rule is at most each rule that a line breaks.
 abbrev pub IsLeast : List (List ℕ) → ℕ → List (List ℕ) → List ℕ → Type 0
 IsLeast text rule before line = (other : ℕ) → LineBreaks text other before line → rule ≤ other
 
@@ -92,7 +92,7 @@ first_broken before line later rule kept broken is_least not_blank = record {
   ];
 }
 
--- The last line, where no line is broken.
+-- The last line, if no line is broken.
 not_broken : (text : List (List ℕ)) (by : ℕ) (done before before' : List (List ℕ)) (line' : List ℕ) (later' : List (List ℕ))
     → before ≡ before' ++ (line' ∷ later') → AreUnbroken text done before → LineBreaks text by (done ++ before') line' → ⊥
 not_broken text by done [] [] line' later' same kept broken = absurd (cc)

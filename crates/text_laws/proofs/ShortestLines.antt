@@ -27,7 +27,7 @@ unsigned_tokens digits decimals =
     let magnitude : unsigned_abs (pos digits) ≡ digits = omega arith in
     rw (not_negative digits, magnitude) refl
 
--- A sign in front of 0 is left out, and stands in front of every other negative number.
+-- A sign before 0 is left out, and is there before every negative number.
 signed_number : (negative : Bool) (digits decimals : ℕ)
     → TakeNoMore (literal_tokens (literal.Number (with_sign negative digits) decimals)) (sign_tokens negative ++ (token.Number digits decimals ∷ []))
 signed_number false digits decimals =
@@ -36,7 +36,7 @@ signed_number true zero decimals = record { within = λ behind rest. omega (arit
 signed_number true (suc digits) decimals =
     as_much (literal_tokens (literal.Number (with_sign true (suc digits)) decimals)) (sign_tokens true ++ (token.Number (suc digits) decimals ∷ [])) refl
 
--- A number of a line, perhaps with a sign.
+-- A number of a line, which may have a sign.
 number_takes_no_more : (number : ℤ) (decimals : ℕ) (tokens : List Token) → WritesNumber number decimals tokens
     → TakeNoMore (literal_tokens (literal.Number number decimals)) tokens
 number_takes_no_more number decimals tokens written =
@@ -56,7 +56,7 @@ seconds_take_no_more (literal.Number number decimals) tokens written =
     as_much (literal_tokens (literal.Number number decimals)) tokens
     (ap (λ n. literal_tokens (literal.Number n decimals)) written.2 ∙ unsigned_tokens written.0 decimals ∙ sym written.3)
 
--- What a form ends with.
+-- The end of a form.
 tail_takes_no_more : (tail : Tail) (tokens : List Token) → WritesTail tail tokens → TakeNoMore (tail_tokens tail) tokens
 tail_takes_no_more Nothing tokens written = as_much [] tokens (sym written)
 tail_takes_no_more (OfLiteral value) tokens written = literal_takes_no_more value tokens written
@@ -65,7 +65,7 @@ tail_takes_no_more (OfExpression value) tokens written = expression_takes_no_mor
 
 -- ---- Lines
 
--- The canonical tokens of a form take no more than tokens that write it.
+-- The canonical tokens of a form take no more bytes than tokens that write it.
 form_takes_no_more : (some : LineForm) (tokens : List Token) → WritesForm some tokens → TakeNoMore (form_tokens some) tokens
 form_takes_no_more some tokens written =
     subst (TakeNoMore (form_tokens some)) (sym written.spelled)

@@ -20,30 +20,30 @@ use Rattle.unit_tree.proofs.FoldLemmas.{fold-Number, fold-Truth, fold-Var, fold-
 use Rattle.unit_tree.proofs.FoldLemmas.{fold-Present}
 use Rattle.language_laws.proofs.PhraseLaws.{primary_stands, all_in_whole}
 
--- ---- Tokens that take no more than others
+-- ---- Tokens that take no more bytes than others
 
--- The canonical tokens take no more than the written ones, whatever stands before them and behind them.
+-- The canonical tokens take no more bytes than the written ones, whatever comes before and after them.
 pub record TakeNoMore (canonical written : List Token) : Type 0 where
   pub within : (behind : Bool) (rest : List Token) → width behind (canonical ++ rest) ≤ width behind (written ++ rest)
 
--- The same tokens take as much.
+-- The same tokens take the same number of bytes.
 pub as_much : (canonical written : List Token) → canonical ≡ written → TakeNoMore canonical written
 as_much canonical written same = rw same (record { within = λ behind rest. omega arith })
 
--- From the canonical tokens to the written ones through others.
+-- Two such comparisons, one after the other.
 through : {canonical middle written : List Token} → TakeNoMore canonical middle → TakeNoMore middle written → TakeNoMore canonical written
 through first second = record { within = λ behind rest. omega (arith, first.within behind rest, second.within behind rest) }
 
--- One token in front of both.
+-- One token before both.
 take_behind : (first : Token) {canonical written : List Token} → TakeNoMore canonical written → TakeNoMore (first ∷ canonical) (first ∷ written)
 take_behind first less = record { within = λ behind rest. omega (arith, less.within (is_worded first) rest) }
 
--- The same tokens in front of both.
+-- The same tokens before both.
 pub take_after : (front : List Token) {canonical written : List Token} → TakeNoMore canonical written → TakeNoMore (front ++ canonical) (front ++ written)
 take_after [] less = less
 take_after (first ∷ front) less = take_behind first (take_after front less)
 
--- The same tokens behind both.
+-- The same tokens after both.
 take_before : (back canonical written : List Token) → TakeNoMore canonical written → TakeNoMore (canonical ++ back) (written ++ back)
 take_before back canonical written less =
     record { within = λ behind rest. rw (append_assoc canonical back rest, append_assoc written back rest) (less.within behind (back ++ rest)) }
@@ -63,13 +63,13 @@ take_between middle on_left on_right = take_both on_left (take_behind middle on_
 take_inside : {canonical written : List Token} → TakeNoMore canonical written → TakeNoMore (in_parens canonical) (in_parens written)
 take_inside {canonical} {written} less = take_behind (symbol sign.Open) (take_before (symbol sign.Close ∷ []) canonical written less)
 
--- The closing parenthesis takes a byte, and one space at most is saved by it.
+-- The closing parenthesis takes one byte, and saves at most one space.
 close_takes : (behind : Bool) (tokens rest : List Token) → width behind (tokens ++ rest) ≤ width behind (tokens ++ (symbol sign.Close ∷ rest))
 close_takes true [] rest = omega (arith, width_bound true false rest)
 close_takes false [] rest = omega arith
 close_takes behind (first ∷ tokens) rest = omega (arith, close_takes (is_worded first) tokens rest)
 
--- Parentheses that are taken away save two bytes, and bring two spaces at most.
+-- To leave out parentheses saves two bytes, and requires at most two spaces.
 without_parens : (tokens : List Token) → TakeNoMore tokens (in_parens tokens)
 without_parens tokens =
     record {
@@ -121,20 +121,20 @@ take_three first second on_one on_two on_three = take_between first on_one (take
 
 -- ---- Phrases in their places
 
--- A phrase takes no more than another one.
+-- A phrase takes no more bytes than another one.
 abbrev IsNoLonger : Phrase → Phrase → Type 0
 IsNoLonger canonical written = TakeNoMore (phrase_tokens canonical) (phrase_tokens written)
 
--- A phrase is placed as it is where its level is allowed.
+-- A phrase is placed unchanged where its level is allowed.
 placed_bare : (asked : Level) (canonical written : Phrase) → allows asked (level_of canonical) ≡ true → IsNoLonger canonical written
     → IsNoLonger (placed asked canonical) written
 placed_bare asked canonical written allowed less = rw allowed less
 
--- The weakest level allows every phrase as it is.
+-- The weakest level allows every phrase unchanged.
 pub placed_whole : (canonical : Phrase) → placed Whole canonical ≡ canonical
 placed_whole canonical = ap (λ allowed. cond allowed canonical (phrase.Parens canonical)) (all_in_whole (level_of canonical))
 
--- What was written in parentheses has them again at most.
+-- A phrase in parentheses has at most these again.
 placed_parens : (allowed : Bool) (canonical inner : Phrase) → IsNoLonger canonical inner
     → IsNoLonger (cond allowed canonical (phrase.Parens canonical)) (phrase.Parens inner)
 placed_parens true canonical inner less = through less (without_parens (phrase_tokens inner))
@@ -142,11 +142,11 @@ placed_parens false canonical inner less = take_inside less
 
 -- ---- Phrases
 
--- The canonical phrase of the tree of what is written.
+-- The canonical phrase of the tree of a phrase.
 abbrev pub again : Phrase → Phrase
 again written = canonical_phrase (tree_of written)
 
--- In every place where a phrase may stand, the canonical one of its tree takes no more.
+-- In every place where a phrase is allowed, the canonical phrase of its tree takes no more bytes.
 abbrev Claim : Phrase → Type 0
 Claim written = (asked : Level) → stands asked written ≡ true → IsNoLonger (placed asked (again written)) written
 
@@ -164,11 +164,11 @@ on_number : (digits decimals : ℕ) → Claim (phrase.Number digits decimals)
 on_number digits decimals =
     leaf (phrase.Number digits decimals) (fold-Number Phrase node_phrase (pos digits) decimals ∙ ap (λ n. phrase.Number n decimals) (omega arith)) refl
 
--- Parentheses of what is written stand again only where the place asks for them.
+-- Parentheses that are written are needed again only where the place requires them.
 on_parens : (inner : Phrase) → Claim inner → Claim (phrase.Parens inner)
 on_parens inner given asked so = placed_parens (allows asked (level_of (again inner))) (again inner) inner (on_whole inner given so)
 
--- What is written stands without parentheses in its place, and so the canonical operation does.
+-- What is written is in its place without parentheses, and so is the canonical operation.
 on_unary : (op : UnOp) (arg : Phrase) → Claim arg → Claim (phrase.Unary op arg)
 on_unary op arg given asked so =
     let level = operand_level (unary_level op) in
@@ -228,7 +228,7 @@ canonical_takes_no_more (phrase.Choose condition then_part else_part) =
 canonical_takes_no_more phrase.Absent = leaf phrase.Absent (fold-Absent Phrase node_phrase) refl
 canonical_takes_no_more (phrase.Present name) = leaf (phrase.Present name) (fold-Present Phrase node_phrase name) refl
 
--- The canonical expression takes no more than any that writes its tree.
+-- The canonical expression takes no more bytes than any that writes its tree.
 pub expression_takes_no_more : (value : Expr) (tokens : List Token) → Writes value tokens → TakeNoMore (expression_tokens value) tokens
 expression_takes_no_more value tokens written =
     let whole_stands = (and_parts (stands Whole written.phrase) _ written.is_grammatical).0 in

@@ -1,4 +1,4 @@
--- What a text says has as many canonical lines as the text has lines that are not blank.
+-- The system of a text has as many canonical lines as the text has lines that are not blank.
 use Rattle.std.proofs.Common.{◌≡◌, ℕ, suc, ◌+◌, Bool, true, false, List, [], ◌∷◌, ◌++◌, length, take, drop, refl, ap, sym, ◌∙◌, arith}
 use Rattle.std.specs.Prelude.{◌==◌, not, ⊤}
 use Rattle.std.specs.List.{filter, flat_map, enumerate_from}
@@ -14,7 +14,7 @@ use Rattle.unit_tree.specs.Texts.{HasFormIn}
 use Rattle.language_laws.proofs.SourceLaws.{forms_are}
 use Rattle.text_laws.specs.Laws.{SourceLinesAreOneForOne}
 
--- ---- Two lists that go along with the same parts
+-- ---- Two lists with an element for each line of the same parts
 
 -- The same ranks, with lists of the same lengths.
 abbrev AreLevel : {A B : Type 0} → List (ℕ × List A) → List (ℕ × List B) → Type 0

@@ -14,13 +14,13 @@ use Rattle.unit_tree.specs.declared.token.Token.TheVariants as token
 use Rattle.text_tokens.proofs.TableLemmas.{keyword_is_word}
 use Rattle.list_laws.proofs.Lists.{all_of_two}
 
--- What tokens and the blanks between them are made of: the bytes of code but `#`.
+-- The bytes of tokens and the blanks between them: the bytes of code except `#`.
 abbrev pub is_spelled_byte : ℕ → Bool
 is_spelled_byte byte = is_code_byte byte && not (byte == 35)
 
 -- ---- Lists whose elements pass a test
 
--- What passes the one test passes the other.
+-- Elements that pass the one test pass the other.
 pub all_pass : {A : Type 0} (one other : A → Bool) → ((x : A) → one x ≡ true → other x ≡ true) → (xs : List A) → list_all one xs ≡ true
     → list_all other xs ≡ true
 all_pass one other passes [] all = refl
@@ -42,7 +42,7 @@ word_spelled byte of_word = grind (arith, nat_tests)
 digit_spelled : (byte : ℕ) → is_digit byte ≡ true → is_spelled_byte byte ≡ true
 digit_spelled byte digit = grind (arith, nat_tests)
 
--- Symbols are made of such bytes.
+-- Symbols have such bytes.
 symbol_spelled : (symbol : Symbol) → list_all is_spelled_byte (symbol_text symbol) ≡ true
 symbol_spelled sign.Assign = refl
 symbol_spelled sign.Arrow = refl
@@ -75,12 +75,12 @@ number_spelled digits decimals text is =
     ∙ all_of_two is_spelled_byte is.whole (pointed is.fraction) (all_pass is_digit is_spelled_byte digit_spelled is.whole is.is_whole.0)
     (pointed_spelled is.fraction is.is_fraction.0)
 
--- A word is made of bytes of words.
+-- A word has bytes of words.
 pub word_bytes : (text : List ℕ) → IsWord text → list_all is_word_byte text ≡ true
 word_bytes [] word = absurd word
 word_bytes (first ∷ others) word = rw word.0 word.1
 
--- A keyword is made of bytes of words.
+-- A keyword has bytes of words.
 pub keyword_bytes : (keyword : Keyword) → list_all is_word_byte (keyword_text keyword) ≡ true
 keyword_bytes keyword = (and_parts (begins_with is_letter (keyword_text keyword)) (list_all is_word_byte (keyword_text keyword)) (keyword_is_word keyword)).1
 
@@ -93,7 +93,7 @@ token_spelled (token.Name name) text spelling =
 token_spelled (token.Number digits decimals) text spelling = number_spelled digits decimals text spelling
 token_spelled (token.Symbol symbol) text spelling = ap (list_all is_spelled_byte) spelling ∙ symbol_spelled symbol
 
--- A line that spells tokens is made of the bytes of tokens and blanks.
+-- A line that spells tokens has only the bytes of tokens and blanks.
 pub spelled_bytes : (tokens : List Token) (line : List ℕ) → Spells tokens line → list_all is_spelled_byte line ≡ true
 spelled_bytes [] line blank = all_pass is_blank is_spelled_byte blank_spelled line blank
 spelled_bytes (first ∷ others) line (rest, begins, more) =
@@ -127,7 +127,7 @@ pub spelled_is_code : (line : List ℕ) → list_all is_spelled_byte line ≡ tr
 spelled_is_code line spelled =
     before_first_none (λ byte. byte == 35) line (all_pass is_spelled_byte (λ byte. not (byte == 35)) spelled_no_comment line spelled)
 
--- Such a byte is no CR.
+-- Such a byte is not a CR.
 no_return : (byte : ℕ) → is_spelled_byte byte ≡ true → (byte == 13) ≡ false
 no_return byte spelled = grind (arith, nat_tests)
 

@@ -1,4 +1,4 @@
--- The texts of tokens, and of tokens that stand apart: they spell these tokens.
+-- The texts of tokens, and of tokens that need no blank between them: they spell these tokens.
 use Rattle.std.proofs.Common.{◌≡◌, ℕ, zero, suc, ◌<◌, ◌≤◌, Bool, true, false, not, cond, ◌&&◌, ◌||◌, ◌==◌, Option, Some, None, List, [], ◌∷◌}
 use Rattle.std.proofs.Common.{◌++◌, length, drop, IsTrue, refl, ap, sym, subst, ◌∙◌, arith, append_assoc}
 use Rattle.std.specs.List.{AllByRecursion, list_all, last_or}
@@ -49,11 +49,11 @@ grows byte = (byte == 61) || (byte == 62)
 abbrev starts_pair : ℕ → Bool
 starts_pair byte = (byte == 58) || ((byte == 45) || ((byte == 60) || ((byte == 62) || ((byte == 61) || (byte == 33)))))
 
--- Whether the first two bytes may be those of a symbol.
+-- Whether the first two bytes may be those of a symbol of two bytes.
 abbrev begins_pair : List ℕ → Bool
 begins_pair bytes = begins_with grows (drop 1 bytes) && begins_with starts_pair bytes
 
--- A symbol of two bytes begins so.
+-- A symbol of two bytes begins with two such bytes.
 pair_begins : (some : Symbol) (after : List ℕ) → 1 < length (symbol_text some) → begins_pair (symbol_text some ++ after) ≡ true
 pair_begins sign.Assign after two = refl
 pair_begins sign.Arrow after two = refl
@@ -74,13 +74,13 @@ pair_begins sign.Close after two = absurd (omega arith)
 pair_begins sign.Comma after two = absurd (omega arith)
 pair_begins sign.Point after two = absurd (omega arith)
 
--- What is not more than one is at most one.
+-- A number that is not greater than one is at most one.
 at_most_one : (size : ℕ) → (1 < size → ⊥) → size ≤ 1
 at_most_one zero small = omega arith
 at_most_one (suc zero) small = omega arith
 at_most_one (suc (suc size)) small = absurd (small (omega arith))
 
--- A symbol of one byte is the longest where the next byte makes no longer one.
+-- A symbol of one byte is the longest where the next byte doesn't make a longer one.
 single_longest : (some : Symbol) (byte : ℕ) (rest : List ℕ) → symbol_text some ≡ byte ∷ [] → (begins_with grows rest && starts_pair byte) ≡ false
     → IsLongest some rest
 single_longest some byte rest spelled single other after same =
@@ -94,7 +94,7 @@ single_longest some byte rest spelled single other after same =
 double_longest : (some : Symbol) (rest : List ℕ) → length (symbol_text some) ≡ 2 → IsLongest some rest
 double_longest some rest two other after same = omega (arith, two, (symbol_size other).1)
 
--- A symbol is the longest where the next byte is none that it grows by.
+-- A symbol is the longest where the next byte doesn't make it longer.
 symbol_longest : (some : Symbol) (rest : List ℕ) → (begins_with grows rest && can_grow some) ≡ false → IsLongest some rest
 symbol_longest sign.Assign rest other = double_longest sign.Assign rest refl
 symbol_longest sign.Arrow rest other = double_longest sign.Arrow rest refl
@@ -117,7 +117,7 @@ symbol_longest sign.Point rest other = single_longest sign.Point 46 rest refl ot
 
 -- ---- First bytes
 
--- The text begins as a word or a number does: no test passes its first byte that passes no byte of words.
+-- The text begins like a word or a number: a test that passes no byte of words doesn't pass its first byte.
 record BeginsAsWord (text : List ℕ) : Type 0 where
   some : 0 < length text
   fails : (test : ℕ → Bool) → ((byte : ℕ) → is_word_byte byte ≡ true → test byte ≡ false) → begins_with test text ≡ false
@@ -163,8 +163,8 @@ token_some (token.Name name) fits = (name_begins name fits.0).some
 token_some (token.Number digits decimals) fits = (number_begins digits decimals (fixed_text decimals digits) (padded_number decimals digits fits.1 fits.0)).some
 token_some (token.Symbol spelled) fits = (symbol_size spelled).0
 
--- A test of bytes sees in the text of a token what a test of tokens sees in the token: no word passes, and symbols
--- pass alike.
+-- A test of the first byte of a token's text agrees with a test of the token: no word passes, and a symbol passes the
+-- one exactly if it passes the other.
 record SeesFirst (test : ℕ → Bool) (seen : Token → Bool) : Type 0 where
   words : (byte : ℕ) → is_word_byte byte ≡ true → test byte ≡ false
   keywords : (spelled : Keyword) → seen (token.Keyword spelled) ≡ false
@@ -181,12 +181,12 @@ token_first test seen sees (token.Number digits decimals) fits =
     ∙ sym (sees.numbers digits decimals)
 token_first test seen sees (token.Symbol spelled) fits = sees.symbols spelled
 
--- What a text begins with is what its front begins with.
+-- A text begins with what its prefix begins with.
 begins_front : (test : ℕ → Bool) (text others : List ℕ) → 0 < length text → begins_with test (text ++ others) ≡ begins_with test text
 begins_front test [] others some = absurd (omega arith)
 begins_front test (byte ∷ bytes) others some = refl
 
--- So it is where a space may stand behind the front.
+-- The same where a space may follow the prefix.
 spaced_begins : (test : ℕ → Bool) (text others : List ℕ) → 0 < length text → begins_with test (spaced text others) ≡ begins_with test text
 spaced_begins test text others some =
     elim (ends_in_word text && begins_with is_word_byte others) as
@@ -200,7 +200,7 @@ tokens_first test seen sees [] fit = refl
 tokens_first test seen sees (first ∷ others) fit =
     spaced_begins test (token_text first) (tokens_text others) (token_some first fit.0) ∙ token_first test seen sees first fit.0
 
--- The symbols that begin with `=` or `>` are those by which others grow.
+-- The symbols that begin with `=` or `>` are those that make others longer.
 symbol_grows : (some : Symbol) → begins_with grows (symbol_text some) ≡ is_growth (token.Symbol some)
 symbol_grows sign.Assign = refl
 symbol_grows sign.Arrow = refl
@@ -242,7 +242,7 @@ symbol_points sign.Close = refl
 symbol_points sign.Comma = refl
 symbol_points sign.Point = refl
 
--- No symbol grows by a byte of words.
+-- A byte of words makes no symbol longer.
 word_grows_none : (byte : ℕ) → is_word_byte byte ≡ true → grows byte ≡ false
 word_grows_none byte of_word = grind (arith, nat_tests)
 
@@ -250,17 +250,17 @@ word_grows_none byte of_word = grind (arith, nat_tests)
 word_no_point : (byte : ℕ) → is_word_byte byte ≡ true → (byte == 46) ≡ false
 word_no_point byte of_word = grind (arith, nat_tests)
 
--- The growth of symbols is seen in the first byte.
+-- The first byte shows whether a text makes a symbol longer.
 growth_seen : SeesFirst grows is_growth
 growth_seen = record { words = word_grows_none; keywords = λ spelled. refl; names = λ name. refl; numbers = λ digits decimals. refl; symbols = symbol_grows }
 
--- A point is seen in the first byte.
+-- The first byte shows whether a text is a point.
 point_seen : SeesFirst (λ byte. byte == 46) is_point
 point_seen = record { words = word_no_point; keywords = λ spelled. refl; names = λ name. refl; numbers = λ digits decimals. refl; symbols = symbol_points }
 
 -- ---- Last bytes
 
--- The last of bytes of words is one.
+-- The last of some bytes of words is a byte of words.
 last_of : (first : ℕ) (others : List ℕ) → is_word_byte first ≡ true → list_all is_word_byte others ≡ true
     → (last : ℕ) × (last_or (Some first) others ≡ Some last) × (is_word_byte last ≡ true)
 last_of first [] is all = (first, refl, is)
@@ -280,7 +280,7 @@ word_ends front first others all =
     let last = last_of first others parts.0 parts.1 in
     rw (last_behind None front first others ∙ last.1) last.2
 
--- A text that is made of bytes of words ends in a word.
+-- A text of bytes of words ends in a word.
 all_of_word : (text : List ℕ) → 0 < length text → list_all is_word_byte text ≡ true → ends_in_word text ≡ true
 all_of_word [] some all = absurd (omega arith)
 all_of_word (first ∷ others) some all = word_ends [] first others all
@@ -302,8 +302,8 @@ number_ends digits decimals text is = ap ends_in_word is.spelled ∙ parts_end i
 
 -- ---- Where tokens end
 
--- What is known of the bytes behind a token's text: none of a word where the text ends in one, and none that the token
--- would be read on into.
+-- What is known of the bytes after a token's text: none of a word where the text ends in one, and none that would
+-- continue the token.
 record StandsBefore (some : Token) (rest : List ℕ) : Type 0 where
   apart : ends_in_word (token_text some) ≡ true → begins_with is_word_byte rest ≡ false
   no_point : (digits decimals : ℕ) → some ≡ token.Number digits decimals → begins_with (λ byte. byte == 46) rest ≡ false
@@ -328,7 +328,7 @@ token_ends (token.Symbol spelled) rest fits before = symbol_longest spelled rest
 before_blank : (some : Token) (rest : List ℕ) → StandsBefore some (32 ∷ rest)
 before_blank some rest = record { apart = λ ends. refl; no_point = λ digits decimals is. refl; no_growth = λ spelled is. refl }
 
--- The text of tokens that stand apart from the one before them ends it.
+-- The text of tokens that need no blank after the one before them ends it.
 before_tokens : (some : Token) (others : List Token) → AreFit others → not (reads_on some others) ≡ true
     → (ends_in_word (token_text some) && begins_with is_word_byte (tokens_text others)) ≡ false → StandsBefore some (tokens_text others)
 before_tokens some others fit apart no_meeting =
@@ -342,7 +342,7 @@ before_tokens some others fit apart no_meeting =
 
 -- ---- Lines
 
--- A line spells the same behind a space.
+-- A line spells the same after a space.
 behind_blank : (tokens : List Token) (line : List ℕ) → Spells tokens line → Spells tokens (32 ∷ line)
 behind_blank [] line spelled = spelled
 behind_blank (first ∷ others) line (rest, begins, more) = (
@@ -359,7 +359,7 @@ behind_blank (first ∷ others) line (rest, begins, more) = (
   more,
 )
 
--- A token in front of what ends it is spelled, and what is behind it too.
+-- A token before bytes that end it is spelled, and so are the tokens after it.
 first_spelled : (first : Token) (others : List Token) (rest : List ℕ) → IsFit first → StandsBefore first rest → Spells others rest
     → Spells (first ∷ others) (token_text first ++ rest)
 first_spelled first others rest fits before more = (
@@ -376,7 +376,7 @@ first_spelled first others rest fits before more = (
   more,
 )
 
--- So it is with the space where words would meet, and without it where they would not.
+-- The same with the space where words would be next to each other, and without it elsewhere.
 meeting_or_not : (first : Token) (others : List Token) (meet : Bool)
     → (ends_in_word (token_text first) && begins_with is_word_byte (tokens_text others)) ≡ meet → IsFit first → AreFit others
     → not (reads_on first others) ≡ true → Spells others (tokens_text others)
@@ -385,7 +385,7 @@ meeting_or_not first others true is fits fit apart more =
     first_spelled first others (32 ∷ tokens_text others) fits (before_blank first (tokens_text others)) (behind_blank others (tokens_text others) more)
 meeting_or_not first others false is fits fit apart more = first_spelled first others (tokens_text others) fits (before_tokens first others fit apart is) more
 
--- Tokens that fit and stand apart are spelled by their text.
+-- Tokens that fit and need no blanks between them are spelled by their text.
 pub tokens_are_spelled : (tokens : List Token) → AreFit tokens → are_apart tokens ≡ true → Spells tokens (tokens_text tokens)
 tokens_are_spelled [] fit apart = refl
 tokens_are_spelled (first ∷ others) fit apart =

@@ -23,31 +23,31 @@ abbrev pub is_worded : Token → Bool
 is_worded (token.Symbol spelled) = false
 is_worded _ = true
 
--- One space stands between two words or numbers, and none between other tokens.
+-- There is one space between two words or numbers, and none between other tokens.
 abbrev pub gap : Bool → Bool → ℕ
 gap true true = 1
 gap _ _ = 0
 
--- The bytes that tokens take with the spaces among them, behind a word or number or not.
+-- The bytes that tokens take with the spaces between them, after a word or number or not.
 abbrev pub width : Bool → List Token → ℕ
 width behind [] = 0
 width behind (first ∷ others) = gap behind (is_worded first) + (length (token_text first) + width (is_worded first) others)
 
--- ---- What stands before tokens
+-- ---- What comes before tokens
 
--- At most one space stands there.
+-- There is at most one space.
 gap_bound : (one other : Bool) → gap one other ≤ 1
 gap_bound true true = omega arith
 gap_bound true false = omega arith
 gap_bound false true = omega arith
 gap_bound false false = omega arith
 
--- What stands before tokens makes one byte of difference at most.
+-- What comes before tokens makes a difference of at most one byte.
 pub width_bound : (one other : Bool) (tokens : List Token) → width one tokens ≤ suc (width other tokens)
 width_bound one other [] = omega arith
 width_bound one other (first ∷ others) = omega (arith, gap_bound one (is_worded first))
 
--- Behind a word tokens take the most.
+-- After a word tokens take the most bytes.
 width_most : (one : Bool) (tokens : List Token) → width one tokens ≤ width true tokens
 width_most true tokens = omega arith
 width_most false [] = omega arith
@@ -55,7 +55,7 @@ width_most false (first ∷ others) = omega arith
 
 -- ---- The canonical text
 
--- Two texts with a space between them or not.
+-- Two texts with or without a space between them.
 joined_length : (both : Bool) (text others : List ℕ)
     → length (if both then text ++ (32 ∷ others) else text ++ others) ≡ gap both true + (length text + length others)
 joined_length true text others = omega (arith, length-append text (32 ∷ others))
@@ -68,25 +68,25 @@ symbol_ends symbol = search rules
 symbol_begins : (symbol : Symbol) (others : List ℕ) → begins_with is_word_byte (spaced (symbol_text symbol) others) ≡ false
 symbol_begins symbol others = search rules
 
--- What a token's text ends with asks for no space that the token does not.
+-- The last byte of a token's text requires no space that the token does not.
 width_behind : (first : Token) (others : List Token) → width (ends_in_word (token_text first)) others ≤ width (is_worded first) others
 width_behind (token.Keyword keyword) others = width_most (ends_in_word (keyword_text keyword)) others
 width_behind (token.Name name) others = width_most (ends_in_word name) others
 width_behind (token.Number digits decimals) others = width_most (ends_in_word (fixed_text decimals digits)) others
 width_behind (token.Symbol symbol) others = rw (symbol_ends symbol) (omega arith)
 
--- A space that is asked for from both sides is asked for from one.
+-- A space that both sides require is required by one.
 gap_most : (ends begins : Bool) → gap (ends && begins) true ≤ gap ends true
 gap_most true true = omega arith
 gap_most true false = omega arith
 gap_most false begins = omega arith
 
--- None stands where one side asks for none.
+-- There is none where one side requires none.
 no_gap : (ends : Bool) → gap (ends && false) true ≡ 0
 no_gap true = refl
 no_gap false = refl
 
--- What a token's text begins with asks for no space that the token does not.
+-- The first byte of a token's text requires no space that the token does not.
 gap_before : (ends : Bool) (first : Token) (others : List ℕ)
     → gap (ends && begins_with is_word_byte (spaced (token_text first) others)) true ≤ gap ends (is_worded first)
 gap_before ends (token.Keyword keyword) others = gap_most ends _
@@ -94,7 +94,7 @@ gap_before ends (token.Name name) others = gap_most ends _
 gap_before ends (token.Number digits decimals) others = gap_most ends _
 gap_before ends (token.Symbol symbol) others = rw (symbol_begins symbol others) (omega (arith, no_gap ends))
 
--- A text and the canonical text of tokens behind it.
+-- A text and the canonical text of tokens after it.
 text_within : (text : List ℕ) (tokens : List Token) → length (spaced text (tokens_text tokens)) ≤ length text + width (ends_in_word text) tokens
 text_within text [] = omega (arith, joined_length (ends_in_word text && false) text [], no_gap (ends_in_word text))
 text_within text (first ∷ others) =
@@ -107,14 +107,14 @@ text_within text (first ∷ others) =
       width_behind first others,
     )
 
--- The canonical text of tokens is no longer than what they take.
+-- The canonical text of tokens is no longer than their width.
 pub tokens_within : (tokens : List Token) → length (tokens_text tokens) ≤ width false tokens
 tokens_within [] = omega arith
 tokens_within (first ∷ others) = omega (arith, text_within (token_text first) others, width_behind first others)
 
 -- ---- Numbers
 
--- One digit more has ten times the room.
+-- One more digit makes room for ten times as many numbers.
 room_of_more : (room count : ℕ) → room * 10 ^ suc count ≡ 10 * room * 10 ^ count
 room_of_more room count =
     ap (λ power. room * power) (pow-succ' 10 count) ∙ sym (mul_assoc room 10 (10 ^ count)) ∙ ap (λ more. more * 10 ^ count) (mul_comm room 10)
@@ -187,7 +187,7 @@ name_begins : (name rest : List ℕ) → IsName name → begins_with is_word_byt
 name_begins [] rest is = absurd is.0
 name_begins (byte ∷ bytes) rest is = or_left (is_letter byte) (is_digit byte) is.0.0
 
--- What spells a word or a number begins with such a byte.
+-- A text that spells a word or a number begins with such a byte.
 spelling_begins : (first : Token) (text rest : List ℕ) → IsSpelling first text → is_worded first ≡ true → begins_with is_word_byte (text ++ rest) ≡ true
 spelling_begins (token.Keyword keyword) text rest is worded = rw is (word_begins (keyword_text keyword) rest (keyword_is_word keyword))
 spelling_begins (token.Name name) text rest is worded = rw is.0 (name_begins name rest is.1)
@@ -202,25 +202,26 @@ ends_apart (token.Name name) rest ends worded = ends
 ends_apart (token.Number digits decimals) rest ends worded = ends.0
 ends_apart (token.Symbol symbol) rest ends worded = absurd cc
 
--- The tokens take no more than the line has, behind a word too where the line begins with no byte of one.
+-- The tokens take no more bytes than the line has, also after a word where the line does not begin with a byte of
+-- a word.
 record Fits (tokens : List Token) (line : List ℕ) : Type 0 where
   bare : width false tokens ≤ length line
   apart : begins_with is_word_byte line ≡ false → width true tokens ≤ length line
 
--- What comes behind a token has room for the others.
+-- The bytes after a token have room for the others.
 others_within : (worded : Bool) (others : List Token) (rest : List ℕ) → (worded ≡ true → begins_with is_word_byte rest ≡ false) → Fits others rest
     → width worded others ≤ length rest
 others_within true others rest apart fits = fits.apart (apart refl)
 others_within false others rest apart fits = fits.bare
 
--- Where a space has to stand in front of a token, the line has a blank.
+-- Where a space is required before a token, the line has a blank.
 gap_within : (worded : Bool) (blanks text rest : List ℕ) → (worded ≡ true → begins_with is_word_byte (text ++ rest) ≡ true)
     → begins_with is_word_byte (blanks ++ text ++ rest) ≡ false → gap true worded ≤ length blanks
 gap_within false blanks text rest begins apart = omega arith
 gap_within true [] text rest begins apart = absurd (cc (begins refl))
 gap_within true (blank ∷ blanks) text rest begins apart = omega arith
 
--- Tokens that fit behind a token fit with it.
+-- Tokens that fit after a token fit with it.
 fits_more : (first : Token) (others : List Token) (line rest : List ℕ) → BeginsWith line first rest → Fits others rest → Fits (first ∷ others) line
 fits_more first others line rest is fits =
     let text = spelling_within first is.text is.spelling in
@@ -237,11 +238,11 @@ fits_more first others line rest is fits =
           );
     }
 
--- Tokens that a line spells fit it.
+-- Tokens that a line spells fit in it.
 spelled_fits : (tokens : List Token) (line : List ℕ) → Spells tokens line → Fits tokens line
 spelled_fits [] line spelled = record { bare = omega arith; apart = λ apart. omega arith }
 spelled_fits (first ∷ others) line spelled = fits_more first others line spelled.0 spelled.1 (spelled_fits others spelled.0 spelled.2)
 
--- The tokens that a line spells take no more than the line has.
+-- The tokens that a line spells take no more bytes than the line has.
 pub line_is_no_shorter : (tokens : List Token) (line : List ℕ) → Spells tokens line → width false tokens ≤ length line
 line_is_no_shorter tokens line spelled = (spelled_fits tokens line spelled).bare

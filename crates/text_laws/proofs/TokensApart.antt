@@ -1,4 +1,4 @@
--- Tokens that stand beside each other as they are, with no blank between them, and are read one by one again.
+-- Tokens that may be next to each other without a blank between them, and are read one by one again.
 use Rattle.std.proofs.Common.{◌≡◌, ℕ, Bool, true, false, not, ◌&&◌, List, [], ◌∷◌, ◌++◌, refl, ap, sym, ◌∙◌, append_assoc}
 use Rattle.std.specs.Int.{is_negative}
 use Rattle.std.specs.Prelude.{unsigned_abs}
@@ -26,7 +26,7 @@ use Rattle.unit_tree.specs.declared.token.Symbol.TheVariants as sign
 use Rattle.unit_tree.specs.declared.token.Token.{Token}
 use Rattle.unit_tree.specs.declared.token.Token.TheVariants as token
 
--- ---- What may stand beside what
+-- ---- Which tokens may be next to each other
 
 -- Whether a longer symbol begins with this one.
 abbrev pub can_grow : Symbol → Bool
@@ -37,7 +37,7 @@ can_grow sign.Greater = true
 can_grow sign.Is = true
 can_grow _ = false
 
--- Whether a token begins with `=` or `>`, by which a symbol grows.
+-- Whether a token begins with `=` or `>`, which make a symbol longer.
 abbrev pub is_growth : Token → Bool
 is_growth (token.Symbol sign.Equals) = true
 is_growth (token.Symbol sign.AtLeast) = true
@@ -50,47 +50,48 @@ abbrev pub is_point : Token → Bool
 is_point (token.Symbol sign.Point) = true
 is_point _ = false
 
--- Whether a first token is there and passes the test.
+-- Whether there is a first token and it passes the test.
 abbrev pub starts_with : (Token → Bool) → List Token → Bool
 starts_with test [] = false
 starts_with test (first ∷ others) = test first
 
--- Whether a token would be read on into those behind it: a number into a point, and a symbol into what it grows by.
+-- Whether the tokens after a token would continue it: a number is continued by a point, and a symbol by what makes
+-- a longer symbol.
 abbrev pub reads_on : Token → List Token → Bool
 reads_on (token.Number digits decimals) behind = starts_with is_point behind
 reads_on (token.Symbol spelled) behind = starts_with is_growth behind && can_grow spelled
 reads_on _ behind = false
 
--- No token would be read on into the next.
+-- No token is continued by the next.
 abbrev pub are_apart : List Token → Bool
 are_apart [] = true
 are_apart (first ∷ others) = not (reads_on first others) && are_apart others
 
--- ---- One token in front
+-- ---- One token before others
 
--- A symbol stands apart from what it cannot grow by.
+-- A symbol needs no blank before tokens that cannot make it a longer symbol.
 before_other : (spelled : Symbol) (behind : List Token) → starts_with is_growth behind ≡ false → are_apart behind ≡ true
     → are_apart (symbol spelled ∷ behind) ≡ true
 before_other spelled behind other apart = rw other apart
 
--- A symbol that no other begins with stands apart from everything.
+-- A symbol that no other begins with needs no blank before any token.
 before_any : (spelled : Symbol) (behind : List Token) → can_grow spelled ≡ false → are_apart behind ≡ true → are_apart (symbol spelled ∷ behind) ≡ true
 before_any spelled behind full apart = rw (and_right (starts_with is_growth behind) (can_grow spelled) full) apart
 
--- A token that may stand between two operands: it is no point, and stands apart from what no symbol grows by.
+-- A token that may be between two operands: it is not a point, and makes no symbol before it longer.
 record Separates (between : Token) : Type 0 where
   no_point : is_point between ≡ false
   apart : (behind : List Token) → starts_with is_growth behind ≡ false → are_apart behind ≡ true → are_apart (between ∷ behind) ≡ true
 
--- Every keyword does.
+-- Every keyword may.
 keyword_separates : (spelled : Keyword) → Separates (keyword spelled)
 keyword_separates spelled = record { no_point = refl; apart = λ behind other apart. apart }
 
--- Every symbol but the point does.
+-- Every symbol except the point may.
 symbol_separates : (spelled : Symbol) → is_point (symbol spelled) ≡ false → Separates (symbol spelled)
 symbol_separates spelled no_point = record { no_point = no_point; apart = before_other spelled }
 
--- Every operation does.
+-- Every operation may.
 operation_separates : (op : BinOp) → Separates (operation op)
 operation_separates by.Add = symbol_separates sign.Plus refl
 operation_separates by.Sub = symbol_separates sign.Minus refl
@@ -111,16 +112,16 @@ operation_separates by.Max = keyword_separates word.Max
 
 -- ---- Operands
 
--- The tokens stand apart from each other and from everything behind them but a point, and no symbol grows by them.
+-- The tokens need no blanks between them or before any token but a point, and make no symbol before them longer.
 record IsOperand (tokens : List Token) : Type 0 where
   apart : (behind : List Token) → are_apart behind ≡ true → starts_with is_point behind ≡ false → are_apart (tokens ++ behind) ≡ true
   other : (behind : List Token) → starts_with is_growth (tokens ++ behind) ≡ false
 
--- Tokens of an operand stand apart where nothing is behind them.
+-- Tokens of an operand need no blanks if nothing follows them.
 operand_apart : (tokens : List Token) → IsOperand tokens → are_apart tokens ≡ true
 operand_apart tokens operand = ap are_apart (sym (append-nil tokens)) ∙ operand.apart [] refl refl
 
--- No symbol grows by them there.
+-- They make no symbol before them longer there.
 operand_other : (tokens : List Token) → IsOperand tokens → starts_with is_growth tokens ≡ false
 operand_other tokens operand = ap (starts_with is_growth) (sym (append-nil tokens)) ∙ operand.other []
 
@@ -136,7 +137,7 @@ name_operand name = record { apart = λ behind apart no_point. apart; other = λ
 number_operand : (digits decimals : ℕ) → IsOperand (token.Number digits decimals ∷ [])
 number_operand digits decimals = record { apart = λ behind apart no_point. rw no_point apart; other = λ behind. refl }
 
--- So is an operand behind a token that separates and that no symbol grows by.
+-- The same for an operand after a token that separates and that makes no symbol longer.
 behind_first : (first : Token) (tokens : List Token) → Separates first → is_growth first ≡ false → IsOperand tokens → IsOperand (first ∷ tokens)
 behind_first first tokens separates no_growth operand =
     record {
@@ -154,7 +155,7 @@ both_operands left right between separates first second =
       other = λ behind. ap (starts_with is_growth) (append_assoc left (between ∷ right) behind) ∙ first.other (between ∷ right ++ behind);
     }
 
--- So is an operand with `)` behind it.
+-- The same for an operand with `)` after it.
 closed : (inner : List Token) → IsOperand inner → IsOperand (inner ++ (symbol sign.Close ∷ []))
 closed inner operand =
     record {
@@ -262,42 +263,42 @@ type_operand (types.Fixed decimals) = record { apart = λ behind apart no_point.
 
 -- ---- Lines
 
--- A declaration stands apart from everything behind it but a point.
+-- A declaration needs no blank before any token but a point.
 declaration_apart : (declared : Keyword) (name : List ℕ) (ty : Ty) (behind : List Token) → are_apart behind ≡ true → starts_with is_point behind ≡ false
     → are_apart (declaration declared name ty ++ behind) ≡ true
 declaration_apart declared name ty behind apart no_point =
     let operand = type_operand ty in
     before_other sign.Colon (type_tokens ty ++ behind) (operand.other behind) (operand.apart behind apart no_point)
 
--- Names with commas stand apart from everything behind them that does.
+-- Names with commas need no blank before tokens that are apart themselves.
 names_apart : (names : List (List ℕ)) (behind : List Token) → are_apart behind ≡ true → are_apart (names_tokens names ++ behind) ≡ true
 names_apart [] behind apart = apart
 names_apart (name ∷ []) behind apart = apart
 names_apart (name ∷ next ∷ names) behind apart = before_any sign.Comma (names_tokens (next ∷ names) ++ behind) refl (names_apart (next ∷ names) behind apart)
 
--- So do the names of what is needed, with their keyword.
+-- So do the names in the needs, with their keyword.
 needs_apart : (names : List (List ℕ)) (behind : List Token) → are_apart behind ≡ true → are_apart (needs_tokens names ++ behind) ≡ true
 needs_apart [] behind apart = apart
 needs_apart (name ∷ names) behind apart = names_apart (name ∷ names) behind apart
 
--- What is needed begins with no point.
+-- The tokens of needs don't begin with a point.
 needs_no_point : (names : List (List ℕ)) (behind : List Token) → starts_with is_point behind ≡ false
     → starts_with is_point (needs_tokens names ++ behind) ≡ false
 needs_no_point [] behind no_point = no_point
 needs_no_point (name ∷ names) behind no_point = refl
 
--- A value behind `=`.
+-- A value after `=`.
 given_apart : (tokens : List Token) → IsOperand tokens → are_apart (equals ++ tokens) ≡ true
 given_apart tokens operand = before_other sign.Is tokens (operand_other tokens operand) (operand_apart tokens operand)
 
--- A declaration with its value stands apart.
+-- A declaration with its value needs no blanks.
 declared_with : (declared : Keyword) (name : List ℕ) (ty : Ty) (value : List Token) → IsOperand value
     → are_apart (declaration declared name ty ++ equals ++ value) ≡ true
 declared_with declared name ty value operand =
     ap are_apart (append_assoc (declaration declared name ty) equals value)
     ∙ declaration_apart declared name ty (equals ++ value) (given_apart value operand) refl
 
--- So does one with what it needs.
+-- So does a declaration with its needs.
 declared_needing : (declared : Keyword) (name : List ℕ) (ty : Ty) (needs : List (List ℕ)) (value : List Token) → IsOperand value
     → are_apart (declaration declared name ty ++ needs_tokens needs ++ equals ++ value) ≡ true
 declared_needing declared name ty needs value operand =
@@ -306,7 +307,7 @@ declared_needing declared name ty needs value operand =
     ∙ declaration_apart declared name ty (needs_tokens needs ++ (equals ++ value)) (needs_apart needs (equals ++ value) (given_apart value operand))
     (needs_no_point needs (equals ++ value) refl)
 
--- The tokens of every canonical line stand apart.
+-- The tokens of every canonical line need no blanks between them.
 pub form_is_apart : (some : LineForm) → are_apart (form_tokens some) ≡ true
 form_is_apart (form.Header version) = refl
 form_is_apart (form.Unit name) = refl

@@ -18,7 +18,7 @@ use Rattle.fixed_words.specs.declared.types.Ty.TheVariants.{Int64}
 
 -- ---- Texts that are parsed
 
--- bytes that are no text
+-- bytes that are not a text
 pub no_text : {E : Type 0} (IsFault : E → Type 0) (bytes : List ℕ) (text : Result (Bor (List ℕ)) E) (told : Option (Bor (List ℕ)))
     → MatchResult text (λ s. (s.now ≡ bytes) × IsUtf8 bytes) (λ e. (IsUtf8 bytes → ⊥) × IsFault e) → told ≡ result_ok text → told ≡ None → IsUtf8 bytes → ⊥
 no_text IsFault bytes (Ok s) told reads is none utf8 = absurd (none-some s (sym none ∙ is))
@@ -58,7 +58,7 @@ word_once bytes one other is also =
 
 -- ---- Digits
 
--- Digits have no sign in front.
+-- Digits have no sign before them.
 pub unsigned_value : (bytes : List ℕ) → list_all is_digit bytes ≡ true → signed_digits_value 10 bytes ≡ pos (digits_value 10 bytes)
 unsigned_value [] all = refl
 unsigned_value (byte ∷ bytes) all =

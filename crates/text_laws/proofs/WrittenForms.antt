@@ -47,7 +47,7 @@ spelled_fit (first ∷ others) line spelled = (spelling_fits first spelled.1.tex
 
 -- ---- Names of an expression
 
--- What stands in parentheses fits.
+-- Tokens in parentheses fit.
 inside_parens : (tokens : List Token) → AreFit (in_parens tokens) → AreFit tokens
 inside_parens tokens fit = (each_part IsFit tokens (symbol sign.Close ∷ []) fit.1).0
 
@@ -127,7 +127,7 @@ expression_names : (value : Expr) (tokens : List Token) → Writes value tokens 
 expression_names value tokens writes fit =
     subst (λ tree. AreNames (names_in tree)) writes.is_tree (tree_names writes.phrase (subst AreFit (sym writes.spelled) fit))
 
--- ---- Fronts
+-- ---- The first tokens of a line
 
 -- Names with commas are names.
 names_listed : (names : List (List ℕ)) → AreFit (names_tokens names) → AreNames names
@@ -135,12 +135,12 @@ names_listed [] fit = _
 names_listed (name ∷ []) fit = (fit.0, _)
 names_listed (name ∷ next ∷ names) fit = (fit.0, names_listed (next ∷ names) fit.1.1)
 
--- What is needed are names.
+-- The needs are names.
 needed_names : (needs : List (List ℕ)) → AreFit (needs_tokens needs) → AreNames needs
 needed_names [] fit = _
 needed_names (name ∷ names) fit = names_listed (name ∷ names) fit.1
 
--- The name of a declaration, and those of what it needs.
+-- The name of a declaration, and those in its needs.
 declared_names : (declared : Keyword) (name : List ℕ) (ty : Ty) (needs : List (List ℕ))
     → AreFit (declaration declared name ty ++ needs_tokens needs ++ equals) → AreNames (name ∷ needs)
 declared_names declared name ty needs fit =
@@ -148,7 +148,7 @@ declared_names declared name ty needs fit =
     let parts = each_part IsFit (declaration declared name ty) (needs_tokens needs) front.0 in
     (fit.1.0, needed_names needs parts.1)
 
--- The names in front of a literal or an expression are names.
+-- The names before a literal or an expression are names.
 front_names : (some : LineForm) → AreFit (front_tokens some) → AreNames (names_said some)
 front_names (form.Unit name) fit = (fit.1.0, _)
 front_names (form.Param param) fit = (fit.1.0, _)

@@ -1,4 +1,5 @@
--- Laws of texts: what the definitions of the language promise to those who read texts and print them.
+-- Laws of texts: what follows from the definitions of the language for code that reads and prints
+-- texts.
 use Rattle.std.specs.Prelude.{◌≡◌, ◌≤◌, ℕ, List, length}
 use Rattle.unit_tree.specs.Canonical.{canonical_forms, canonical_text, line_text}
 use Rattle.unit_tree.specs.LineForms.{HasForm}
@@ -8,7 +9,7 @@ use Rattle.unit_tree.specs.Texts.{Reads}
 use Rattle.unit_tree.specs.declared.line_form.LineForm.{LineForm}
 use Rattle.unit_tree.specs.declared.system.System.{System}
 
--- What a text says has a canonical text, and is in range.
+-- The system of a text has a canonical text, and is in range.
 abbrev pub WhatIsReadIsPrintable : Type 0
 WhatIsReadIsPrintable = (text : List ℕ) (system : System) → Reads text system → IsPrintable system
 
@@ -16,7 +17,8 @@ WhatIsReadIsPrintable = (text : List ℕ) (system : System) → Reads text syste
 abbrev pub CanonicalTextIsReadBack : Type 0
 CanonicalTextIsReadBack = (system : System) → IsPrintable system → Reads (canonical_text system) system
 
--- What a text says has as many canonical lines as there are lines that they came from.
+-- The system of a text has as many canonical lines as there are lines of the text that they came
+-- from.
 abbrev pub SourceLinesAreOneForOne : Type 0
 SourceLinesAreOneForOne =
     (text : List ℕ) (system : System) (lines : List ℕ) → ReadsFrom text system lines → length lines ≡ length (canonical_forms system)

@@ -1,4 +1,4 @@
--- The form of a line, by the tokens that its code spells.
+-- The form of a line, from the tokens that its code spells.
 use Rattle.std.proofs.Common.{◌≡◌, ℕ, List, Option, Some, None, Result, Ok, Err, refl, ap, sym, subst, ◌∙◌, ◌⊎◌, inl, inr}
 use Rattle.unit_tree.specs.LineForms.{WritesForm, HasForm}
 use Rattle.unit_tree.specs.Lines.{code_of}
@@ -13,7 +13,7 @@ use Rattle.text_lines.specs.Laws.{HasOneForm}
 use Rattle.text_lines.specs.LineReading.{FormIs, LineHas, read_form}
 use Rattle.text_lines.proofs.ReadLines.{form_written, form_said}
 
--- What the tokens of a line's code write is the form that the line has.
+-- The form that the tokens of a line's code write is the form of the line.
 pub line_said : (line : List ℕ) (tokens : List Token) (found : Option LineForm) → Spells tokens (code_of line) → FormIs tokens found → LineHas line found
 line_said line tokens (Some some) spelled is = record { tokens = tokens; spelled = spelled; written = is }
 line_said line tokens None spelled is = λ some has.
@@ -23,14 +23,14 @@ line_said line tokens None spelled is = λ some has.
 pub line_unspelled : (line : List ℕ) → ((tokens : List Token) → Spells tokens (code_of line) → ⊥) → (some : LineForm) → HasForm some line → ⊥
 line_unspelled line unspelled some has = unspelled has.tokens has.spelled
 
--- The answer for the tokens of a line's code is one for the line.
+-- The result for the tokens of a line's code is one for the line.
 pub line_reads : (line : List ℕ) (tokens : List Token) (result : Result LineForm Unread) → Spells tokens (code_of line) → ReadsAs result (FormIs tokens)
     → ReadsAs result (LineHas line)
 line_reads line tokens (Ok some) spelled is = line_said line tokens (Some some) spelled is
 line_reads line tokens (Err unread.NoForm) spelled is = line_said line tokens None spelled is
 line_reads line tokens (Err unread.NoMemory) spelled is = tt
 
--- A line has one form at most.
+-- A line has at most one form.
 pub one_form : HasOneForm
 one_form line one other first second =
     let read : read_form second.tokens ≡ Some one = ap read_form (spells_one second.tokens first.tokens (code_of line) second.spelled first.spelled)
@@ -38,7 +38,7 @@ one_form line one other first second =
     let same : ◌≡◌ {A = Option LineForm} (Some one) (Some other) = sym read ∙ form_written other second.tokens second.written in
     cc
 
--- A line has a form, or it has none.
+-- It is decided whether a line has a form.
 has_or_not : (line : List ℕ) (found : Option LineForm) → LineHas line found
     → ((some : LineForm) × HasForm some line) ⊎ (((some : LineForm) × HasForm some line) → ⊥)
 has_or_not line (Some some) has = inl (some, has)

@@ -1,4 +1,5 @@
--- Infix operations: what a token says of one, and an expression read as its first operand and the operations behind.
+-- Infix operations: the operation of a token, and an expression read as its first operand and the operations after
+-- it.
 use Rattle.std.proofs.Common.{◌≡◌, ℕ, suc, zero, ◌+◌, ◌<◌, ◌≤◌, Bool, true, false, cond, List, [], ◌∷◌, ◌++◌, Option, Some, None, refl, ap, sym, ◌∙◌, arith}
 use Rattle.std.proofs.Common.{◌&&◌}
 use Rattle.std.specs.Prelude.{IfSome, option_and_then}
@@ -16,7 +17,7 @@ use Rattle.text_lines.specs.Expressions.{Reader, Front, infix_symbol, infix_keyw
 
 -- ---- Operations
 
--- Whether an operation stands between its operands.
+-- Whether an operation is written between its operands.
 abbrev pub is_infix : BinOp → Bool
 is_infix by.Min = false
 is_infix by.Max = false
@@ -78,13 +79,13 @@ infix_keyword_is word.And = (refl, refl)
 infix_keyword_is word.Or = (refl, refl)
 infix_keyword_is _ = tt
 
--- So it is with each token.
+-- The same for each token.
 pub infix_is : (first : Token) → IfSome (infix_of first) (Reads first)
 infix_is (token.Symbol symbol) = infix_symbol_is symbol
 infix_is (token.Keyword keyword) = infix_keyword_is keyword
 infix_is _ = tt
 
--- A level allows what is no weaker.
+-- A level allows each level that is not weaker.
 pub allows_is : (asked level : Level) → allows asked level ≡ true → strength asked ≤ strength level
 allows_is asked level is = grind (arith, nat_tests)
 
@@ -105,7 +106,7 @@ strongest Primary = omega arith
 
 -- ---- The operation that comes first
 
--- An operation that comes first is spelled there, and stands where the grammar asks for the level.
+-- An operation that comes first is spelled there, and is allowed where the grammar requires the level.
 pub record Takes (asked left : Level) (tokens : List Token) (found : BinOp × List Token) : Type 0 where
   pub spelled : tokens ≡ operation found.0 ∷ found.1
   pub between : is_infix found.0 ≡ true
@@ -120,7 +121,7 @@ takes_test asked left first rest op true true is one other =
 takes_test asked left first rest op true false is one other = tt
 takes_test asked left first rest op false other is one same = tt
 
--- So it is with what the first token is read as.
+-- The same for the operation that the first token is read as.
 takes_by : (asked left : Level) (first : Token) (rest : List Token) (found : Option BinOp) → IfSome found (Reads first)
     → IfSome (option_and_then (λ op. cond (allows asked (binary_level op) && allows (left_level (binary_level op)) left) (Some (op, rest)) None) found)
     (Takes asked left (first ∷ rest))
@@ -128,12 +129,12 @@ takes_by asked left first rest None is = tt
 takes_by asked left first rest (Some op) is =
     takes_test asked left first rest op (allows asked (binary_level op)) (allows (left_level (binary_level op)) left) is refl refl
 
--- So it is with the first of any tokens.
+-- The same for the first of any tokens.
 pub infix_at_is : (asked left : Level) (tokens : List Token) → IfSome (infix_at asked left tokens) (Takes asked left tokens)
 infix_at_is asked left [] = tt
 infix_at_is asked left (first ∷ rest) = takes_by asked left first rest (infix_of first) (infix_is first)
 
--- The right side of an operation that is found is on a stronger level than the one asked for.
+-- The right side of an operation that is found is on a stronger level than the required one.
 rises_by : (asked left : Level) (tokens : List Token) (found : Option (BinOp × List Token)) (op : BinOp) (rest : List Token)
     → IfSome found (Takes asked left tokens) → found ≡ Some (op, rest) → strength asked < strength (right_level (binary_level op))
 rises_by asked left tokens None op rest is same = absurd (cc)
@@ -143,19 +144,19 @@ rises_by asked left tokens (Some other) op rest is same =
     let within = allows_is asked (binary_level other.0) is.asked_for in
     rw (← one) (omega arith)
 
--- So it is with the operation that comes first.
+-- The same for the operation that comes first.
 pub infix_at_rises : (asked left : Level) (tokens : List Token) (op : BinOp) (rest : List Token) → infix_at asked left tokens ≡ Some (op, rest)
     → strength asked < strength (right_level (binary_level op))
 infix_at_rises asked left tokens op rest same = rises_by asked left tokens (infix_at asked left tokens) op rest (infix_at_is asked left tokens) same
 
 -- ---- Reading step by step
 
--- What two functions that agree make of one reading.
+-- Two functions that agree give the same after one reading.
 pub then_same : {A B : Type 0} (found : Option A) (f g : A → Option B) → ((x : A) → f x ≡ g x) → option_and_then f found ≡ option_and_then g found
 then_same None f g same = refl
 then_same (Some x) f g same = same x
 
--- Two readers that agree on every right side that is asked for.
+-- Two readers that agree on every right side that is required.
 abbrev Agree : Reader → Reader → Level → Type 0
 Agree one other asked = (op : BinOp) (tokens : List Token) → is_infix op ≡ true → allows asked (binary_level op) ≡ true
     → one (right_level (binary_level op)) tokens ≡ other (right_level (binary_level op)) tokens
@@ -172,7 +173,7 @@ agree_by one other asked f g left (Some (op, behind)) same next is =
     ∙ then_same (other (right_level (binary_level op)) behind) (λ right. f (expr.Binary op left.0 right.0, binary_level op, right.2))
     (λ right. g (expr.Binary op left.0 right.0, binary_level op, right.2)) on
 
--- With all the operations behind a left side two readers that agree give the same.
+-- Two readers that agree give the same with all the operations after a left side.
 climb_agree : (one other : Reader) (asked : Level) (turns : List Token) (left : Front) → Agree one other asked
     → climb one asked turns left ≡ climb other asked turns left
 climb_agree one other asked [] left same = refl
@@ -180,7 +181,7 @@ climb_agree one other asked (turn ∷ turns) left same =
     agree_by one other asked (climb one asked turns) (climb other asked turns) left (infix_at asked left.1 left.2) same
     (λ x. climb_agree one other asked turns x same) (infix_at_is asked left.1 left.2)
 
--- More levels than are left change nothing.
+-- More levels than there are left change nothing.
 steady : (inner : Reader) (levels_left : ℕ) (asked : Level) (tokens : List Token) → 8 < levels_left + strength asked
     → within inner (suc levels_left) asked tokens ≡ within inner levels_left asked tokens
 unfolding within
@@ -193,7 +194,7 @@ steady inner (suc levels_left) asked tokens enough =
     let bound = allows_is asked (binary_level op) allowed in
     steady inner levels_left (right_level (binary_level op)) behind (omega arith)))
 
--- An expression is its first operand with the infix operations behind it.
+-- An expression is its first operand with the infix operations after it.
 pub read_step : (budget : ℕ) (asked : Level) (tokens : List Token)
     → read budget asked tokens ≡ option_and_then (λ left. climb (read budget) asked left.2 left) (operand_at (deeper budget) asked tokens)
 unfolding read within

@@ -1,4 +1,4 @@
--- How the tokens of an expression with parts begin, with the tokens behind it.
+-- How the tokens of an expression with parts begin, with the tokens after it.
 use Rattle.std.proofs.Common.{◌≡◌, List, [], ◌∷◌, ◌++◌, ap, ◌∙◌, append_assoc}
 use Rattle.unit_tree.specs.Phrases.{symbol, keyword, in_parens}
 use Rattle.unit_tree.specs.declared.token.Keyword.TheVariants as word
@@ -24,7 +24,7 @@ clamp_tokens value low high rest =
     pair_tokens value (low ++ (symbol sign.Comma ∷ high)) rest
     ∙ ap (λ all. symbol sign.Open ∷ (value ++ (symbol sign.Comma ∷ all))) (append_assoc low (symbol sign.Comma ∷ high) (symbol sign.Close ∷ rest))
 
--- The parts of a choice, behind `if`.
+-- The parts of a choice, after `if`.
 pub choice_tokens : (condition chosen other rest : List Token)
     → (condition ++ (keyword word.Then ∷ (chosen ++ (keyword word.Else ∷ other)))) ++ rest
     ≡ condition ++ (keyword word.Then ∷ (chosen ++ (keyword word.Else ∷ (other ++ rest))))

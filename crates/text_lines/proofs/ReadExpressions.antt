@@ -1,4 +1,4 @@
--- What is read of tokens is an expression that the grammar has, written with the first of them.
+-- An expression that is read is one that the grammar has, written with the first of the tokens.
 use Rattle.std.proofs.Common.{◌≡◌, ℕ, suc, zero, ◌<◌, ◌^◌, Bool, true, false, cond, ◌&&◌, ◌==◌, max, List, [], ◌∷◌, ◌++◌, Option, Some, None, refl, ap, sym}
 use Rattle.std.proofs.Common.{subst, ◌∙◌, arith, append_assoc, pos, nat_le, nat_lt}
 use Rattle.std.specs.Prelude.{IfSome, option_and_then}
@@ -33,25 +33,25 @@ use Rattle.language_laws.proofs.PhraseLaws.{primary_stands}
 
 -- ---- Single tokens
 
--- What holds of what comes next holds of the whole reading.
+-- A property of what is read next holds of the whole reading.
 pub then_holds : {A B : Type 0} (found : Option A) (next : A → Option B) (P : A → Type 0) (Q : B → Type 0) → IfSome found P
     → ((x : A) → P x → IfSome (next x) Q) → IfSome (option_and_then next found) Q
 then_holds None next P Q is more = tt
 then_holds (Some x) next P Q is more = more x is
 
--- What holds where a test passes holds of the reading that wants it passed.
+-- A property that holds if a test passes holds of a reading that requires the test.
 pub if_holds : {B : Type 0} (test : Bool) (found : Option B) (Q : B → Type 0) → (test ≡ true → IfSome found Q) → IfSome (cond test found None) Q
 if_holds true found Q more = more refl
 if_holds false found Q more = tt
 
--- Symbols with one text are one.
+-- Symbols with the same text are the same.
 pub same_symbol_is : (one other : Symbol) → same_symbol one other ≡ true → one ≡ other
 same_symbol_is one other same =
     let texts : symbol_text one ≡ symbol_text other = (bytes_eq-Decides (symbol_text one) (symbol_text other)).0 same in
     let both : ◌≡◌ {A = Option Symbol} (Some one) (Some other) = sym (symbol_of-symbol_text one) ∙ ap symbol_of texts ∙ symbol_of-symbol_text other in
     cc
 
--- Single tokens are read only where they stand.
+-- Single tokens are read only where they are.
 pub after_symbol_is : (wanted : Symbol) (tokens : List Token) → IfSome (after_symbol wanted tokens) (λ rest. symbol wanted ∷ rest ≡ tokens)
 after_symbol_is wanted [] = tt
 after_symbol_is wanted (token.Symbol found ∷ rest) =
@@ -81,16 +81,16 @@ decimals_at_is (token.Number digits decimals ∷ rest) =
     (ap (λ d. token.Number digits d ∷ rest) (sym (eqb-true decimals 0 parts.0)), parts.1))
 decimals_at_is (_ ∷ rest) = tt
 
--- ---- Where expressions stand
+-- ---- Where expressions are allowed
 
--- An expression stands where the grammar asks for no stronger level than its own.
+-- An expression is allowed only where the grammar requires no stronger level than its own.
 pub stands_allowed : (asked : Level) (inner : Phrase) → stands asked inner ≡ true → allows asked (level_of inner) ≡ true
 stands_allowed asked (phrase.Unary op arg) so = (and_parts (allows asked (unary_level op)) _ so).0
 stands_allowed asked (phrase.Binary op left right) so = (and_parts (allows asked (binary_level op)) _ so).0
 stands_allowed asked (phrase.Choose condition chosen other) so = (and_parts (allows asked Whole) _ so).0
 stands_allowed asked _ so = primary_stands asked
 
--- An expression that stands somewhere stands wherever its level is allowed.
+-- An expression that is allowed somewhere is allowed wherever its level is.
 pub stands_where : (before asked : Level) (inner : Phrase) → stands before inner ≡ true → allows asked (level_of inner) ≡ true → stands asked inner ≡ true
 stands_where before asked (phrase.Parens inner) so allowed = so
 stands_where before asked (phrase.Unary op arg) so allowed =
@@ -103,7 +103,8 @@ stands_where before asked _ so allowed = refl
 
 -- ---- Fronts
 
--- The front is an expression of fewer levels of nesting, which stands where the grammar asks for the level.
+-- What was read is an expression with fewer levels of nesting, which is allowed where the grammar requires
+-- the level.
 pub record IsFront (limit : ℕ) (asked : Level) (tokens : List Token) (front : Front) : Type 0 where
   pub written : Phrase
   pub is_tree : tree_of written ≡ front.0
@@ -113,7 +114,7 @@ pub record IsFront (limit : ℕ) (asked : Level) (tokens : List Token) (front : 
   pub nested : nesting written < limit
   pub fits : numbers_fit written ≡ true
 
--- Each front that the reader gives is one.
+-- Whatever the reader gives is such an expression.
 abbrev pub IsSound : ℕ → Reader → Type 0
 IsSound limit reader = (asked : Level) (tokens : List Token) → IfSome (reader asked tokens) (IsFront limit asked tokens)
 
@@ -126,7 +127,7 @@ pub record IsGroup (limit : ℕ) (tokens : List Token) (found : Expr × List Tok
   pub nested : nesting written < limit
   pub fits : numbers_fit written ≡ true
 
--- What is read in parentheses stands there.
+-- What is read in parentheses is there.
 pub grouped_is : (limit : ℕ) (inner : Reader) (tokens : List Token) → IsSound limit inner → IfSome (grouped_at inner tokens) (IsGroup limit tokens)
 unfolding grouped_at
 grouped_is limit inner tokens sound =
@@ -411,7 +412,7 @@ with_right_is limit reader asked tokens next left (Some (op, behind)) sound more
       fits = and_from (numbers_fit is.written) _ is.fits other.fits;
     }))
 
--- So it is with all the operations behind it.
+-- The same with all the operations after it.
 climb_is : (limit : ℕ) (reader : Reader) (asked : Level) (tokens turns : List Token) (left : Front) → IsSound limit reader → IsFront limit asked tokens left
     → IfSome (climb reader asked turns left) (IsFront limit asked tokens)
 climb_is limit reader asked tokens [] left sound is = is
@@ -419,7 +420,7 @@ climb_is limit reader asked tokens (turn ∷ turns) left sound is =
     with_right_is limit reader asked tokens (climb reader asked turns) left (infix_at asked left.1 left.2) sound
     (λ x front. climb_is limit reader asked tokens turns x sound front) is (infix_at_is asked left.1 left.2)
 
--- So it is with any number of levels left.
+-- The same for any number of levels that are left.
 within_is : (limit : ℕ) (inner : Reader) (levels_left : ℕ) → IsSound limit inner → IsSound (suc limit) (within inner levels_left)
 unfolding within
 within_is limit inner zero sound asked tokens = tt
@@ -427,7 +428,7 @@ within_is limit inner (suc levels_left) sound asked tokens =
     then_holds (operand_at inner asked tokens) _ _ (IsFront (suc limit) asked tokens) (operand_at_is limit inner asked tokens sound) (λ left is.
     climb_is (suc limit) (within inner levels_left) asked tokens left.2 left (within_is limit inner levels_left sound) is)
 
--- Whatever is read is an expression that the grammar has there, nested no deeper than is allowed.
+-- Whatever is read is an expression that the grammar allows there, nested no deeper than allowed.
 pub read_is : (budget : ℕ) → IsSound (suc budget) (read budget)
 unfolding read
 read_is zero asked tokens = within_is 0 (λ level behind. None) 9 (λ level behind. tt) asked tokens

@@ -1,4 +1,4 @@
--- What tokens write is the form that is read of them: what is written is read again.
+-- The form that tokens write is the one that is read from them: what is written is read again.
 use Rattle.std.proofs.Common.{◌≡◌, ℕ, ◌≤◌, ◌^◌, Bool, true, false, ℤ, pos, nat_le, nat_lt, List, [], ◌∷◌, ◌++◌, append_assoc, Option, Some, None, Result, Ok}
 use Rattle.std.proofs.Common.{Err, refl, ap, sym, subst, ◌∙◌, arith}
 use Rattle.std.proofs.lemmas.Bool.{cond-true}
@@ -67,7 +67,7 @@ declaration_again : (name : List ℕ) (ty : Ty) (rest : List Token) → AreDecim
 unfolding declaration_at
 declaration_again name ty rest few = rw (type_again ty rest few) refl
 
--- The names behind the first, each behind a comma.
+-- The names after the first, each after a comma.
 abbrev behind_first : List (List ℕ) → List Token
 behind_first [] = []
 behind_first (name ∷ names) = symbol sign.Comma ∷ token.Name name ∷ behind_first names
@@ -142,7 +142,7 @@ output_again output tail value few =
 
 -- ---- Lines
 
--- What each form is written with is read as it, whatever its tail.
+-- The tokens of each form are read as it, whatever its end is.
 pub form_again : (some : LineForm) (tail : List Token) → WritesTail (tail_of some) tail → AreCountsInRange some
     → read_form (front_tokens some ++ tail) ≡ Some some
 unfolding read_form header_form unit_form resolution_form param_form state_form local_form input_form event_input_form output_form event_output_form max_form
@@ -175,16 +175,16 @@ form_again (form.Zero count) tail is counts = rw (is, count_again 0 10000 count 
 form_again (form.Rows count) tail is counts = rw (is, count_again 1 100000 count [] counts.0 counts.1) refl
 form_again (form.Sample port) tail is counts = rw is refl
 
--- What the tokens write is read of them.
+-- What the tokens write is read from them.
 pub form_written : (some : LineForm) (tokens : List Token) → WritesForm some tokens → read_form tokens ≡ Some some
 form_written some tokens is = ap read_form is.spelled ∙ form_again some is.tail is.tail_is is.counts
 
--- What is read says what the tokens write.
+-- The result of the definition of reading states what the tokens write.
 pub form_said : (tokens : List Token) (found : Option LineForm) → read_form tokens ≡ found → FormIs tokens found
 form_said tokens (Some some) same = written_form some tokens same
 form_said tokens None same = λ some written. let is = form_written some tokens written in absurd (cc)
 
--- The answer of reading says what the tokens write.
+-- The result of reading states what the tokens write.
 pub reads_as : (tokens : List Token) (result : Result LineForm Unread) → Gives result (read_form tokens) → ReadsAs result (FormIs tokens)
 reads_as tokens (Ok some) gives = form_said tokens (Some some) gives
 reads_as tokens (Err unread.NoForm) gives = form_said tokens None gives

@@ -27,7 +27,7 @@ use Rattle.text_lines.proofs.InfixOperations.{read_step}
 use Rattle.text_lines.proofs.PhraseTokens.{group_tokens, pair_tokens, clamp_tokens, choice_tokens}
 use Rattle.text_lines.proofs.ReadExpressions.{IsFront, IsSound, read_is, stands_allowed, stands_where, infix_nesting}
 
--- ---- Where reading goes no further
+-- ---- Where reading stops
 
 -- An infix operation that comes next may have an expression of the level on its left.
 abbrev pub Follows : Level → List Token → Type 0
@@ -42,11 +42,12 @@ follows_stronger weak strong (first ∷ rest) order follows =
     let within = allows_is (left_level (binary_level op)) weak is in
     allows_from (left_level (binary_level op)) strong (omega arith))
 
--- No operation that may follow the one level is allowed where the other is asked for.
+-- No operation that may follow the one level is allowed where the other is required.
 abbrev Never : Level → Level → Type 0
 Never asked bound = (op : BinOp) → is_infix op ≡ true → allows (left_level (binary_level op)) bound ≡ true → allows asked (binary_level op) ≡ false
 
--- Behind the last part of a choice, the operand of `not` and that of the prefix `-`, no operation is allowed that may follow the whole.
+-- After the last part of a choice, and after the operand of `not` and of the prefix `-`, no operation is allowed that
+-- may follow the whole expression.
 never_whole : Never Whole Whole
 never_whole by.Min between follows = absurd (cc)
 never_whole by.Max between follows = absurd (cc)
@@ -70,7 +71,7 @@ left_within by.Min between = absurd (cc)
 left_within by.Max between = absurd (cc)
 left_within _ between = omega arith
 
--- Nor behind the right side of an infix operation.
+-- The same after the right side of an infix operation.
 never_right : (op : BinOp) → is_infix op ≡ true → Never (right_level (binary_level op)) (binary_level op)
 never_right op is next between follows =
     let up = rises op is in
@@ -87,7 +88,7 @@ ends_by : (asked left bound : Level) (first : Token) (rest : List Token) (found 
 ends_by asked left bound first rest None never reads follows = refl
 ends_by asked left bound first rest (Some op) never reads follows = rw (never op reads.1 follows) refl
 
--- So it is with the first of any tokens.
+-- The same for the first of any tokens.
 ends : (asked left bound : Level) (rest : List Token) → Never asked bound → Follows bound rest → infix_at asked left rest ≡ None
 ends asked left bound [] never follows = refl
 ends asked left bound (first ∷ rest) never follows = ends_by asked left bound first rest (infix_of first) never (infix_is first) follows
@@ -100,19 +101,19 @@ climb_ends reader asked (turn ∷ turns) front none = ap (with_right reader (cli
 
 -- ---- Turns
 
--- What is left behind a front is no longer than the tokens.
+-- What is left after a beginning that was read is no longer than the tokens.
 shorter : (limit : ℕ) (asked : Level) (tokens : List Token) (front : Front) → IsFront limit asked tokens front → length front.2 ≤ length tokens
 shorter limit asked tokens front is =
     let same = ap length is.spelled in
     let both = length-append (phrase_tokens is.written) front.2 in
     omega arith
 
--- Of no tokens no operation is found.
+-- From no tokens no operation is found.
 none_left : (asked left : Level) (tokens : List Token) → length tokens ≤ 0 → infix_at asked left tokens ≡ None
 none_left asked left [] empty = refl
 none_left asked left (first ∷ rest) empty = absurd (omega arith)
 
--- What two functions that agree on what holds make of one reading.
+-- Two functions that agree where a fact is true give the same after one reading.
 same_where : {A B : Type 0} (found : Option A) (f g : A → Option B) (P : A → Type 0) → IfSome found P → ((x : A) → P x → f x ≡ g x)
     → option_and_then f found ≡ option_and_then g found
 same_where None f g P is same = refl
@@ -143,20 +144,20 @@ climb_turns limit reader asked (turn ∷ turns) (turn' ∷ others) front sound o
 
 -- ---- Operands
 
--- Reading gives back the expression from its tokens, and goes on behind it.
+-- Reading gives the expression from its tokens, and goes on after it.
 abbrev Again : Phrase → Type 0
 Again written = (budget : ℕ) (asked : Level) (rest : List Token) → stands asked written ≡ true → nesting written ≤ budget → numbers_fit written ≡ true
     → Follows (level_of written) rest
     → read budget asked (phrase_tokens written ++ rest) ≡ climb (read budget) asked rest (tree_of written, level_of written, rest)
 
--- An operand is read, and reading goes on behind it.
+-- An operand is read, and reading goes on after it.
 by_operand : (written : Phrase) (budget : ℕ) (asked : Level) (rest : List Token)
     → operand_at (deeper budget) asked (phrase_tokens written ++ rest) ≡ Some (tree_of written, level_of written, rest)
     → read budget asked (phrase_tokens written ++ rest) ≡ climb (read budget) asked rest (tree_of written, level_of written, rest)
 by_operand written budget asked rest given = read_step budget asked (phrase_tokens written ++ rest)
     ∙ ap (option_and_then (λ left. climb (read budget) asked left.2 left)) given
 
--- A part that nothing goes on behind.
+-- A part that no operation follows.
 part_again : (written : Phrase) → Again written → (budget : ℕ) (asked bound : Level) (rest : List Token) → Never asked bound
     → strength bound ≤ strength (level_of written) → Follows bound rest → stands asked written ≡ true → nesting written < budget → numbers_fit written ≡ true
     → deeper budget asked (phrase_tokens written ++ rest) ≡ Some (tree_of written, level_of written, rest)
@@ -165,7 +166,7 @@ part_again written again (suc budget) asked bound rest never order follows so de
     again budget asked rest so (omega arith) fits (follows_stronger bound (level_of written) rest order follows)
     ∙ climb_ends (read budget) asked rest (tree_of written, level_of written, rest) (ends asked (level_of written) bound rest never follows)
 
--- A whole part, with a token behind it that is no infix operation.
+-- A whole part, with a token after it that is not an infix operation.
 whole_again : (written : Phrase) → Again written → (budget : ℕ) (rest : List Token) → Follows Whole rest → stands Whole written ≡ true
     → nesting written < budget → numbers_fit written ≡ true
     → deeper budget Whole (phrase_tokens written ++ rest) ≡ Some (tree_of written, level_of written, rest)
@@ -273,13 +274,13 @@ again-Unary (of.ToFix decimals) arg given budget asked rest so deep fits follows
     (fix_again (deeper budget) decimals (phrase_tokens arg) rest (tree_of arg) (level_of arg) numbers.0
     (whole_again arg given budget (symbol sign.Close ∷ rest) tt parts.1 deep numbers.1))
 
--- An infix operation is found in front of the tokens behind it.
+-- An infix operation is found before the tokens after it.
 follows_operation : (op : BinOp) (level : Level) (rest : List Token) → is_infix op ≡ true → allows (left_level (binary_level op)) level ≡ true
     → Follows level (operation op ∷ rest)
 follows_operation op level rest between allowed =
     subst (λ found. IfSome found (λ next. allows (left_level (binary_level next)) level ≡ true)) (sym (infix_again op between)) allowed
 
--- So it is where the grammar asks for a level.
+-- The same where the grammar requires a level.
 infix_at_again : (asked level : Level) (op : BinOp) (rest : List Token) → is_infix op ≡ true → allows asked (binary_level op) ≡ true
     → allows (left_level (binary_level op)) level ≡ true → infix_at asked level (operation op ∷ rest) ≡ Some (op, rest)
 infix_at_again asked level op rest between one other = rw (infix_again op between) (rw (one, other) refl)
@@ -372,7 +373,7 @@ again-Choose condition chosen other on_condition on_chosen on_other budget asked
     (whole_again chosen on_chosen budget last tt others.0 (omega arith) numbers.0)
     (whole_again other on_other budget rest follows others.1 (omega arith) numbers.1)))
 
--- Any expression of the grammar is read again from its tokens, wherever it may stand.
+-- Any expression of the grammar is read again from its tokens, wherever it is allowed.
 pub read_again : (written : Phrase) → Again written
 unfolding operand_at
 read_again (phrase.Number digits decimals) =

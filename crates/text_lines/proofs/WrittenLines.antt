@@ -1,4 +1,4 @@
--- The form that tokens write is the one that is read of them: what is read is written.
+-- The form that is read from tokens is the one that they write: what is read is written.
 use Rattle.std.proofs.Common.{◌≡◌, ℕ, ◌≤◌, ◌^◌, Bool, true, false, cond, ◌&&◌, ◌==◌, pos, nat_le, nat_lt, List, [], ◌∷◌, ◌++◌, append_assoc, codes, Option}
 use Rattle.std.proofs.Common.{Some, None, refl, ap, sym, subst, ◌∙◌, arith}
 use Rattle.std.specs.Prelude.{IfSome}
@@ -36,13 +36,13 @@ use Rattle.text_lines.proofs.WrittenTrees.{written_read}
 
 -- ---- Parts of a line
 
--- What holds of both ways of a test holds of the reading by it.
+-- A property of both cases of a test is one of the reading with this test.
 either_holds : {B : Type 0} (test : Bool) (one other : Option B) (Q : B → Type 0) → (test ≡ true → IfSome one Q) → IfSome other Q
     → IfSome (cond test one other) Q
 either_holds true one other Q first second = first refl
 either_holds false one other Q first second = second
 
--- What holds of all that is found holds of what is found.
+-- A property of all that may be found is one of what is found.
 if_found : {A : Type 0} (found : Option A) (Q : A → Type 0) → ((x : A) → found ≡ Some x → Q x) → IfSome found Q
 if_found None Q is = tt
 if_found (Some x) Q is = is x refl
@@ -131,7 +131,7 @@ port_at_is tokens =
     then_holds (name_at behind) _ _ (IsPort tokens) (name_at_is behind) (λ port is.
     ap (λ all. token.Name instance.0 ∷ symbol sign.Point ∷ all) is ∙ ap (λ all. token.Name instance.0 ∷ all) point ∙ named)))
 
--- A name more comes behind a comma.
+-- One more name comes after a comma.
 names_and_one : (first next : List ℕ) (names : List (List ℕ))
     → names_tokens (first ∷ names ++ (next ∷ [])) ≡ names_tokens (first ∷ names) ++ (symbol sign.Comma ∷ token.Name next ∷ [])
 names_and_one first next [] = refl
@@ -191,7 +191,7 @@ expression_is tokens = if_found (read_expression tokens) (λ value. Writes value
 abbrev Written : List Token → LineForm → Type 0
 Written tokens some = WritesForm some tokens
 
--- A form that has no tail is written by its front.
+-- A form that has no literal and no expression at its end is written by its first tokens alone.
 last_is : (some : LineForm) (rest tokens : List Token) → tail_of some ≡ Nothing → front_tokens some ++ rest ≡ tokens → AreCountsInRange some
     → IfSome (last some rest) (Written tokens)
 last_is some [] tokens none spelled counts = record {
@@ -442,7 +442,7 @@ name_is name _ = tt
 
 -- ---- Lines
 
--- What is read of the tokens is what they write.
+-- What is read from the tokens is what they write.
 pub form_is : (tokens : List Token) → IfSome (read_form tokens) (Written tokens)
 unfolding read_form
 form_is (token.Keyword first ∷ rest) = keyword_is first rest

@@ -1,4 +1,4 @@
--- What tokens write is what is read of them.
+-- What tokens write is what is read from them.
 use Rattle.std.proofs.Common.{◌≡◌, List, [], ◌∷◌, Option, Some, None, Result, Ok, Err, refl, ap, sym, ◌∙◌, arith, nat_le, inl, inr}
 use Rattle.std.specs.Prelude.{IfSome, ◌⊎◌}
 use Rattle.std.proofs.lemmas.Bool.{and_parts, and_from}
@@ -14,7 +14,7 @@ use Rattle.text_lines.specs.Expressions.{Front, read, whole_tree, read_expressio
 use Rattle.text_lines.proofs.ReadExpressions.{IsFront, read_is}
 use Rattle.text_lines.proofs.RoundTrip.{read_again}
 
--- What the tokens write is read of them.
+-- What the tokens write is read from them.
 pub read_written : (tree : Expr) (tokens : List Token) → Writes tree tokens → read_expression tokens ≡ Some tree
 unfolding read_expression
 read_written tree tokens is =
@@ -25,7 +25,7 @@ read_written tree tokens is =
     ∙ ap whole_tree (read_again is.phrase 64 Whole [] whole.0 (grind (arith, nat_tests)) numbers.1 tt)
     ∙ ap Some is.is_tree
 
--- A front with no token behind it is written.
+-- What was read is written by the tokens, if no token is left.
 written_by : (tree : Expr) (tokens : List Token) (found : Option Front) → IfSome found (IsFront 65 Whole tokens) → whole_tree found ≡ Some tree
     → Writes tree tokens
 written_by tree tokens None is same = absurd (cc)
@@ -40,24 +40,23 @@ written_by tree tokens (Some (read, level, [])) is same =
     }
 written_by tree tokens (Some (read, level, first ∷ rest)) is same = absurd (cc)
 
--- What is read of the tokens is what they write.
+-- What is read from the tokens is what they write.
 pub written_read : (tree : Expr) (tokens : List Token) → read_expression tokens ≡ Some tree → Writes tree tokens
 unfolding read_expression
 written_read tree tokens same = written_by tree tokens (read 64 Whole tokens) (read_is 64 Whole tokens) same
 
--- What is read says what the tokens write.
+-- The result of the definition of reading states what the tokens write.
 pub expression_is : (tokens : List Token) (found : Option Expr) → read_expression tokens ≡ found → ExpressionIs tokens found
 expression_is tokens (Some tree) same = written_read tree tokens same
 expression_is tokens None same = λ tree written. let is = read_written tree tokens written in absurd (cc)
 
--- The answer of reading says what the tokens write.
+-- The result of reading states what the tokens write.
 pub reads_as : (tokens : List Token) (result : Result Expr Unread) → Gives result (read_expression tokens) → ReadsAs result (ExpressionIs tokens)
 reads_as tokens (Ok tree) gives = expression_is tokens (Some tree) gives
 reads_as tokens (Err unread.NoForm) gives = expression_is tokens None gives
 reads_as tokens (Err unread.NoMemory) gives = tt
 
--- Tokens write an expression, or none.
--- What says what they write decides it.
+-- It is decided whether tokens write an expression.
 decided_by : (tokens : List Token) (found : Option Expr) → ExpressionIs tokens found
     → ((tree : Expr) × Writes tree tokens) ⊎ ((tree : Expr) → Writes tree tokens → ⊥)
 decided_by tokens (Some tree) is = inl (tree, is)
@@ -66,7 +65,7 @@ decided_by tokens None is = inr is
 pub expression_decided : (tokens : List Token) → ((tree : Expr) × Writes tree tokens) ⊎ ((tree : Expr) → Writes tree tokens → ⊥)
 expression_decided tokens = decided_by tokens (read_expression tokens) (expression_is tokens (read_expression tokens) refl)
 
--- Two that they write are both what is read.
+-- Two expressions that they write are both the one that is read.
 pub writes_one : WritesOneTree
 writes_one tokens one other first second =
     let same : ◌≡◌ {A = Option Expr} (Some one) (Some other) = sym (read_written one tokens first) ∙ read_written other tokens second in

@@ -1,4 +1,4 @@
--- Reading of an expression from tokens: what its answer says, and how it is read.
+-- Reading of an expression from tokens: what its result states, and how it is read.
 use Rattle.std.specs.Prelude.{◌≡◌, ℕ, suc, zero, ◌^◌, pos, Bool, true, false, ◌&&◌, ◌==◌, nat_le, nat_lt, List, [], ◌∷◌, Option, Some, None, Result, Ok, Err, ⊤}
 use Rattle.std.specs.Prelude.{if◌then◌else◌, option_and_then}
 use Rattle.std.specs.Borrow.{Bor}
@@ -23,42 +23,42 @@ use Rattle.text_tokens.specs.declared.fault.Unread.TheVariants as unread
 use Rattle.unit_tree.specs.Levels.{grammar_level}
 use Rattle.unit_tree.specs.declared.levels.Level as levels
 
--- The tokens write the expression, or none.
+-- The tokens write the expression; `None` states that they write none.
 abbrev pub ExpressionIs : List Token → Option Expr → Type 0
 ExpressionIs tokens (Some tree) = Writes tree tokens
 ExpressionIs tokens None = (tree : Expr) → Writes tree tokens → ⊥
 
--- Tokens write one expression at most.
+-- Tokens write at most one expression.
 abbrev pub WritesOneTree : Type 0
 WritesOneTree = (tokens : List Token) (one other : Expr) → Writes one tokens → Writes other tokens → one ≡ other
 
 -- ---- How it is read
 
--- One reading after another, where each gives something.
+-- One reading after another, if the first one gives something.
 infixl 10 ◌>>=◌
 abbrev pub ◌>>=◌ : {A B : Type 0} → Option A → (A → Option B) → Option B
 found >>= next = option_and_then next found
 
--- What is read of the first tokens: a tree, the level of its outermost production, and the tokens behind it.
+-- What is read of the first tokens: a tree, the level of its outermost production, and the tokens after it.
 abbrev pub Front : Type 0
 Front = Expr × Level × List Token
 
--- Reading of the first tokens where the grammar asks for a level.
+-- Reading of the first tokens where the grammar requires a level.
 abbrev pub Reader : Type 0
 Reader = Level → List Token → Option Front
 
--- The answer is the front that reading gives.
+-- The result is what the definition of the reading gives.
 abbrev pub GivesExpression : Result (Expr × levels.Level × Bor (List Token)) Unread → Option Front → Type 0
 GivesExpression (Ok x) read = read ≡ Some (x.0, grammar_level x.1, x.2.now)
 GivesExpression (Err unread.NoForm) read = read ≡ None
 GivesExpression (Err unread.NoMemory) read = ⊤
 
--- The answer is the operation that reading gives, with the rest behind it.
+-- The result is the operation that the definition of the reading gives, with the rest after it.
 abbrev pub GivesInfix : Option (BinOp × Bor (List Token)) → Option (BinOp × List Token) → Type 0
 GivesInfix (Some x) read = read ≡ Some (x.0, x.1.now)
 GivesInfix None read = read ≡ None
 
--- The answer is the rest that reading gives.
+-- The result is the rest that the definition of the reading gives.
 abbrev pub GivesRest : {Y : Type 0} → Result (Bor (List Y)) Unread → Option (List Y) → Type 0
 GivesRest (Ok rest) read = read ≡ Some (rest.now)
 GivesRest (Err unread.NoForm) read = read ≡ None
@@ -66,17 +66,17 @@ GivesRest (Err unread.NoMemory) read = ⊤
 
 -- ---- Single tokens
 
--- Symbols are compared by their texts, which differ.
+-- Symbols are compared by their texts, all of which differ.
 abbrev pub same_symbol : Symbol → Symbol → Bool
 same_symbol one other = bytes_eq (symbol_text one) (symbol_text other)
 
--- The tokens behind the symbol that comes first.
+-- The tokens after the symbol, which has to come first.
 abbrev pub after_symbol : Symbol → List Token → Option (List Token)
 after_symbol symbol [] = None
 after_symbol symbol (token.Symbol found ∷ rest) = if same_symbol found symbol then Some rest else None
 after_symbol symbol (_ ∷ rest) = None
 
--- The tokens behind `then`, and behind `else`, that comes first.
+-- The tokens after `then`, and after `else`, which has to come first.
 abbrev pub after_then : List Token → Option (List Token)
 after_then (token.Keyword word.Then ∷ rest) = Some rest
 after_then _ = None
@@ -85,19 +85,20 @@ abbrev pub after_else : List Token → Option (List Token)
 after_else (token.Keyword word.Else ∷ rest) = Some rest
 after_else _ = None
 
--- The name that comes first, and the tokens behind it.
+-- The name that comes first, and the tokens after it.
 abbrev pub name_at : List Token → Option (List ℕ × List Token)
 name_at [] = None
 name_at (token.Name name ∷ rest) = Some (name, rest)
 name_at (_ ∷ rest) = None
 
--- The number of decimals of a conversion to fixed point, and the tokens behind it.
+-- The number of decimals of a conversion to fixed point, and the tokens after it.
 abbrev pub decimals_at : List Token → Option (ℕ × List Token)
 decimals_at [] = None
 decimals_at (token.Number digits decimals ∷ rest) = if (decimals == 0) && nat_le digits decimals_limit then Some (digits, rest) else None
 decimals_at (_ ∷ rest) = None
 
--- ---- What begins with a token of its own: `deeper` reads the parts, which are one level of nesting deeper
+-- ---- Operands that begin with a token of their own: `deeper` reads their parts, which are one level of nesting
+-- deeper
 
 -- A whole expression in parentheses.
 unfoldable pub grouped_at : Reader → List Token → Option (Expr × List Token)
@@ -107,13 +108,13 @@ grouped_at deeper tokens = do
   rest ← after_symbol sign.Close inner.2
   Some (inner.0, rest)
 
--- The operand of a call of one, behind the operation's token.
+-- The operand of a call of one, after the operation's token.
 unfoldable pub call_at : Reader → UnOp → List Token → Option Front
 call_at deeper op tokens = do
   arg ← grouped_at deeper tokens
   Some (expr.Unary op arg.0, Primary, arg.1)
 
--- `N (x)`, behind `fix`.
+-- `N (x)`, after `fix`.
 unfoldable pub fix_at : Reader → List Token → Option Front
 fix_at deeper tokens = do
   decimals ← decimals_at tokens
@@ -124,7 +125,7 @@ unfoldable pub prefix_at : Reader → Level → UnOp → List Token → Option F
 prefix_at deeper asked op tokens =
     if allows asked (unary_level op) then (deeper (unary_level op) tokens >>= λ arg. Some (expr.Unary op arg.0, unary_level op, arg.2)) else None
 
--- The operands of a call of two, behind the operation's token.
+-- The operands of a call of two, after the operation's token.
 unfoldable pub pair_at : Reader → BinOp → List Token → Option Front
 pair_at deeper op tokens = do
   first ← after_symbol sign.Open tokens
@@ -134,7 +135,7 @@ pair_at deeper op tokens = do
   rest ← after_symbol sign.Close right.2
   Some (expr.Binary op left.0 right.0, Primary, rest)
 
--- The operands of `clamp`, behind it.
+-- The operands of `clamp`, after it.
 unfoldable pub clamp_at : Reader → List Token → Option Front
 clamp_at deeper tokens = do
   first ← after_symbol sign.Open tokens
@@ -146,7 +147,7 @@ clamp_at deeper tokens = do
   rest ← after_symbol sign.Close high.2
   Some (expr.Clamp value.0 low.0 high.0, Primary, rest)
 
--- The parts of a choice, behind `if`.
+-- The parts of a choice, after `if`.
 unfoldable pub choice_at : Reader → List Token → Option Front
 choice_at deeper tokens = do
   cond ← deeper Whole tokens
@@ -156,7 +157,7 @@ choice_at deeper tokens = do
   other ← deeper Whole second
   Some (expr.Choose cond.0 chosen.0 other.0, Whole, other.2)
 
--- `(u)`, behind `present`.
+-- `(u)`, after `present`.
 unfoldable pub present_at : List Token → Option Front
 present_at tokens = do
   first ← after_symbol sign.Open tokens
@@ -164,7 +165,7 @@ present_at tokens = do
   rest ← after_symbol sign.Close name.1
   Some (expr.Present name.0, Primary, rest)
 
--- What begins with a keyword, by the tokens behind it.
+-- An operand that begins with a keyword, from the tokens after it.
 abbrev pub keyword_operand : Reader → Level → Keyword → List Token → Option Front
 keyword_operand deeper asked word.True rest = Some (expr.Truth true, Primary, rest)
 keyword_operand deeper asked word.False rest = Some (expr.Truth false, Primary, rest)
@@ -182,7 +183,7 @@ keyword_operand deeper asked word.Absent rest = Some (expr.Absent, Primary, rest
 keyword_operand deeper asked word.Present rest = present_at rest
 keyword_operand deeper asked _ rest = None
 
--- What begins with a symbol, by the tokens behind it.
+-- An operand that begins with a symbol, from the tokens after it.
 abbrev pub symbol_operand : Reader → Level → Symbol → List Token → Option Front
 symbol_operand deeper asked sign.Minus rest = prefix_at deeper asked of.Neg rest
 symbol_operand deeper asked sign.Open rest =
@@ -200,7 +201,7 @@ operand_at deeper asked (token.Keyword keyword ∷ rest) = keyword_operand deepe
 
 -- ---- Infix operations
 
--- The infix operation that the symbol, and that the keyword, is.
+-- The infix operation of a symbol, and that of a keyword.
 abbrev pub infix_symbol : Symbol → Option BinOp
 infix_symbol sign.Plus = Some by.Add
 infix_symbol sign.Minus = Some by.Sub
@@ -221,41 +222,43 @@ infix_keyword word.And = Some by.And
 infix_keyword word.Or = Some by.Or
 infix_keyword _ = None
 
--- The infix operation that the token is.
+-- The infix operation of the token.
 abbrev pub infix_of : Token → Option BinOp
 infix_of (token.Symbol symbol) = infix_symbol symbol
 infix_of (token.Keyword keyword) = infix_keyword keyword
 infix_of _ = None
 
--- The infix operation that comes first, and the tokens behind it, where the grammar asks for a level and the
--- operation's left side is of another.
+-- The infix operation that comes first, and the tokens after it, where the grammar requires level `asked` and
+-- the operation's left side has level `left`.
 abbrev pub infix_at : Level → Level → List Token → Option (BinOp × List Token)
 infix_at asked left [] = None
 infix_at asked left (first ∷ rest) =
     infix_of first >>= λ op. if allows asked (binary_level op) && allows (left_level (binary_level op)) left then Some (op, rest) else None
 
--- With the right side, which `reader` reads, if there is an operation: and then what `next` makes of both.
+-- An operation with its right side, which `reader` reads, if there is an operation; and then what `next` reads
+-- after both.
 abbrev pub with_right : Reader → (Front → Option Front) → Front → Option (BinOp × List Token) → Option Front
 with_right reader next left None = Some left
 with_right reader next left (Some (op, behind)) =
     reader (right_level (binary_level op)) behind >>= λ right. next (expr.Binary op left.0 right.0, binary_level op, right.2)
 
--- The left side with the infix operations behind it that the level asked for allows, as many as `turns` at most.
+-- The left side with the infix operations after it that the required level allows, at most as many as `turns`
+-- has tokens.
 abbrev pub climb : Reader → Level → List Token → Front → Option Front
 climb reader asked [] left = Some left
 climb reader asked (_ ∷ turns) left = with_right reader (climb reader asked turns) left (infix_at asked left.1 left.2)
 
 -- ---- Expressions
 
--- An expression, of which `deeper` reads the parts that are nested. A right side is on a stronger level than its
--- operation, so no more right sides than there are levels stand in one another.
+-- An expression whose nested parts `deeper` reads. A right side is on a stronger level than its operation, so
+-- right sides are nested no deeper than there are levels.
 unfoldable pub within : Reader → ℕ → Reader
 within deeper zero asked tokens = None
 within deeper (suc levels_left) asked tokens = do
   left ← operand_at deeper asked tokens
   climb (within deeper levels_left) asked left.2 left
 
--- An expression whose parts are nested at most so many levels deep.
+-- An expression whose parts are nested at most this many levels deep.
 unfoldable pub read : ℕ → Reader
 read zero asked tokens = within (λ level inner. None) decimals_limit asked tokens
 read (suc budget) asked tokens = within (read budget) decimals_limit asked tokens
@@ -265,12 +268,12 @@ abbrev pub deeper : ℕ → Reader
 deeper zero asked tokens = None
 deeper (suc budget) asked tokens = read budget asked tokens
 
--- The tree, where no token is left.
+-- The tree, if no token is left.
 abbrev pub whole_tree : Option Front → Option Expr
 whole_tree None = None
 whole_tree (Some (tree, level, [])) = Some tree
 whole_tree (Some (tree, level, first ∷ rest)) = None
 
--- The expression that the tokens write.
+-- The expression that the tokens write, or `None`.
 unfoldable pub read_expression : List Token → Option Expr
 read_expression tokens = whole_tree (read writing_limit Whole tokens)

@@ -1,4 +1,4 @@
--- Reading of a line from its tokens: what its answer says, and how it is read.
+-- Reading of a line from its tokens: what its result states, and how it is read.
 use Rattle.std.specs.Prelude.{ℕ, ◌^◌, pos, Bool, true, false, ◌&&◌, ◌==◌, nat_le, nat_lt, List, [], ◌∷◌, ◌++◌, codes, Option, Some, None, if◌then◌else◌}
 use Rattle.std.specs.Str.{bytes_eq}
 use Rattle.model_rules.specs.Limits.{rows_limit, turn_limit, zero_limit}
@@ -22,17 +22,17 @@ use Rattle.unit_tree.specs.declared.unit.Output.{Output}
 use Rattle.unit_tree.specs.declared.unit.Param.{Param}
 use Rattle.text_lines.specs.Expressions.{◌>>=◌, after_symbol, name_at, decimals_at, read_expression}
 
--- The tokens write the form, or none.
+-- The tokens write the form; `None` states that they write none.
 abbrev pub FormIs : List Token → Option LineForm → Type 0
 FormIs tokens (Some some) = WritesForm some tokens
 FormIs tokens None = (some : LineForm) → WritesForm some tokens → ⊥
 
--- The line has the form, or none.
+-- The line has the form; `None` states that it has none.
 abbrev pub LineHas : List ℕ → Option LineForm → Type 0
 LineHas line (Some some) = HasForm some line
 LineHas line None = (some : LineForm) → HasForm some line → ⊥
 
--- ---- Parts of a line: each is what the first tokens say, with the tokens behind them
+-- ---- Parts of a line: what the first tokens are read as, with the tokens after them
 
 -- A whole number within a range.
 abbrev pub count_at : ℕ → ℕ → List Token → Option (ℕ × List Token)
@@ -41,7 +41,7 @@ count_at low high (token.Number digits decimals ∷ rest) =
     if (decimals == 0) && (nat_le low digits && nat_le digits high) then Some (digits, rest) else None
 count_at low high (_ ∷ rest) = None
 
--- The integer type from 0 up with the name.
+-- The unsigned integer type with the name.
 abbrev pub unsigned_type : List ℕ → Option Ty
 unsigned_type name =
     if bytes_eq name (codes "UInt8") then Some types.UInt8 else (
@@ -57,7 +57,7 @@ plain_type name =
     if bytes_eq name (codes "Int64") then Some types.Int64 else (
     if bytes_eq name (codes "Bool") then Some types.Bool else unsigned_type name))))
 
--- The type with the name, and with the decimals behind it if it has them.
+-- The type with the name, with the decimals after it if it has them.
 unfoldable pub named_type : List ℕ → List Token → Option (Ty × List Token)
 named_type name rest =
     if bytes_eq name (codes "Fixed") then (decimals_at rest >>= λ decimals. Some (types.Fixed decimals.0, decimals.1)) else
@@ -85,18 +85,18 @@ port_at tokens = do
   port ← name_at behind
   Some (record { instance = instance.0; port = port.0 }, port.1)
 
--- The names and those that come behind them, each behind a comma.
+-- The names and those that follow them, each after a comma.
 abbrev pub more_names : List (List ℕ) → List Token → Option (List (List ℕ) × List Token)
 more_names names (token.Symbol sign.Comma ∷ token.Name name ∷ rest) = more_names (names ++ (name ∷ [])) rest
 more_names names (token.Symbol sign.Comma ∷ rest) = None
 more_names names rest = Some (names, rest)
 
--- `needs u, v`, or nothing. The first name is read as one behind a comma.
+-- `needs u, v`, or nothing. The first name is read like one after a comma.
 abbrev pub needs_at : List Token → Option (List (List ℕ) × List Token)
 needs_at (token.Keyword word.Needs ∷ rest) = more_names [] (token.Symbol sign.Comma ∷ rest)
 needs_at rest = Some ([], rest)
 
--- ---- Ends of a line: each is what all of the tokens say
+-- ---- Ends of a line: what all of the tokens are read as
 
 -- The literal of a number with or without a sign, where its word fits 64 bits.
 abbrev pub number_literal : Bool → ℕ → ℕ → Option Literal
@@ -116,7 +116,7 @@ abbrev pub seconds_of : List Token → Option Literal
 seconds_of (token.Number digits decimals ∷ []) = if nat_lt digits (2 ^ 63) then Some (literal.Number (pos digits) decimals) else None
 seconds_of _ = None
 
--- The form, where no token is left.
+-- The form, if no token is left.
 abbrev pub last : LineForm → List Token → Option LineForm
 last whole [] = Some whole
 last whole (first ∷ rest) = None
@@ -138,7 +138,7 @@ output_of tokens = do
   value ← read_expression behind
   Some (record { name = declared.0.name; ty = declared.0.ty; needs = needed.0; value = value })
 
--- ---- Lines, behind their first token
+-- ---- Lines, after their first token
 
 unfoldable pub header_form : List Token → Option LineForm
 header_form tokens = do
@@ -190,7 +190,7 @@ event_output_form tokens = do
   event ← output_of tokens
   Some (form.EventOutput (record { name = event.name; ty = event.ty; needs = event.needs; value = event.value }))
 
--- A line of an event port, behind `event`.
+-- A line of an event port, after `event`.
 abbrev pub event_form : List Token → Option LineForm
 event_form (token.Keyword word.Input ∷ rest) = event_input_form rest
 event_form (token.Keyword word.Output ∷ rest) = event_output_form rest
@@ -267,7 +267,7 @@ setting_form name tokens = do
 
 -- ---- Lines
 
--- A line that begins with the keyword, by the tokens behind it.
+-- A line that begins with the keyword, from the tokens after it.
 abbrev pub keyword_form : Keyword → List Token → Option LineForm
 keyword_form word.Cosim rest = header_form rest
 keyword_form word.Unit rest = unit_form rest
@@ -294,13 +294,13 @@ keyword_form word.Rows rest = rows_form rest
 keyword_form word.Sample rest = sample_form rest
 keyword_form _ rest = None
 
--- A line that begins with the name, by the tokens behind it: an assignment or a setting.
+-- A line that begins with the name, from the tokens after it: an assignment or a setting.
 abbrev pub name_form : List ℕ → List Token → Option LineForm
 name_form name (token.Symbol sign.Assign ∷ rest) = assign_form name rest
 name_form name (token.Symbol sign.Is ∷ rest) = setting_form name rest
 name_form name _ = None
 
--- The form that the tokens write.
+-- The form that the tokens write, or `None`.
 unfoldable pub read_form : List Token → Option LineForm
 read_form (token.Keyword keyword ∷ rest) = keyword_form keyword rest
 read_form (token.Name name ∷ rest) = name_form name rest

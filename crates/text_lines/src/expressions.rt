@@ -1,4 +1,4 @@
-//! Reading of an expression: its first operand, and then one infix operation after the other.
+//! Reading of an expression: its first operand, and then its infix operations in turn.
 ghost use Rattle.std.specs.Prelude.{◌≡◌};
 ghost use Rattle.text_tokens.specs.Scanning.{Gives, GivesFront, ReadsAs};
 ghost use Rattle.text_lines.specs.Expressions.{GivesExpression, GivesInfix, GivesRest, WritesOneTree, ExpressionIs, after_symbol, after_then, after_else, name_at, decimals_at, grouped_at, call_at, fix_at, prefix_at, pair_at, clamp_at, choice_at, present_at, keyword_operand, symbol_operand, operand_at, infix_symbol, infix_keyword, infix_of, infix_at, climb, read, deeper, whole_tree, read_expression};
@@ -11,7 +11,7 @@ use text_tokens::Unread;
 use unit_tree::levels::{Level, allows, binary_level, left_level, right_level, unary_level};
 use unit_tree::{BinOp, Expr, Keyword, Name, Symbol, Token, UnOp};
 
-/// The first number that no word of 64 bits is.
+/// The first number that does not fit a word of 64 bits.
 const WORD_END: u64 = 1 << 63;
 
 pub(crate) fn after_symbol(symbol: Symbol, tokens: &[Token]) -> Result<&[Token], Unread>
@@ -50,7 +50,7 @@ pub(crate) fn name_at(alloc: Global, tokens: &[Token]) -> Result<(Name, &[Token]
     }
 }
 
-/// How many decimals a conversion to fixed point asks for.
+/// The number of decimals of a conversion to fixed point, and the tokens after it.
 pub(crate) fn decimals_at(tokens: &[Token]) -> Result<(u8, &[Token]), Unread>
     ensures { GivesFront result (decimals_at tokens.now) }
 {
@@ -63,7 +63,7 @@ pub(crate) fn decimals_at(tokens: &[Token]) -> Result<(u8, &[Token]), Unread>
     }
 }
 
-/// A part that is one level of nesting deeper, where `budget` levels are left.
+/// Reads a part that is one level of nesting deeper, where `budget` levels are left.
 #[cycle(reading)]
 fn part(
     alloc: Global,
@@ -91,7 +91,7 @@ fn grouped(alloc: Global, budget: u8, tokens: &[Token]) -> Result<(Expr, &[Token
     Ok((inner, rest))
 }
 
-/// A call of one operand, behind the operation's token.
+/// A call of one operand, after the operation's token.
 #[cycle(reading)]
 #[tactic(auto, unfolding(crate::specs::Expressions::call_at))]
 fn call(
@@ -107,7 +107,7 @@ fn call(
     Ok((Expr::Unary { op, arg }, Level::Primary, rest))
 }
 
-/// `N (x)`, behind `fix`.
+/// `N (x)`, after `fix`.
 #[cycle(reading)]
 #[tactic(auto, unfolding(crate::specs::Expressions::fix_at))]
 fn fix(alloc: Global, budget: u8, tokens: &[Token]) -> Result<(Expr, Level, &[Token]), Unread>
@@ -117,7 +117,7 @@ fn fix(alloc: Global, budget: u8, tokens: &[Token]) -> Result<(Expr, Level, &[To
     call(alloc, budget, UnOp::ToFix(decimals), rest)
 }
 
-/// `not x` and `-x`, behind their first token.
+/// `not x` and `-x`, after their first token.
 #[cycle(reading)]
 #[tactic(auto, unfolding(crate::specs::Expressions::prefix_at))]
 fn prefix(
@@ -138,7 +138,7 @@ fn prefix(
     Ok((Expr::Unary { op, arg }, level, rest))
 }
 
-/// A call of two operands, behind the operation's token.
+/// A call of two operands, after the operation's token.
 #[cycle(reading)]
 #[tactic(auto, unfolding(crate::specs::Expressions::pair_at))]
 fn pair(
@@ -159,7 +159,7 @@ fn pair(
     Ok((Expr::Binary { op, left, right }, Level::Primary, rest))
 }
 
-/// `(value, low, high)`, behind `clamp`.
+/// `(value, low, high)`, after `clamp`.
 #[cycle(reading)]
 #[tactic(auto, unfolding(crate::specs::Expressions::clamp_at))]
 fn clamp(alloc: Global, budget: u8, tokens: &[Token]) -> Result<(Expr, Level, &[Token]), Unread>
@@ -178,7 +178,7 @@ fn clamp(alloc: Global, budget: u8, tokens: &[Token]) -> Result<(Expr, Level, &[
     Ok((Expr::Clamp { value, low, high }, Level::Primary, rest))
 }
 
-/// `cond then yes else no`, behind `if`.
+/// `cond then yes else no`, after `if`.
 #[cycle(reading)]
 #[tactic(auto, unfolding(crate::specs::Expressions::choice_at))]
 fn choice(alloc: Global, budget: u8, tokens: &[Token]) -> Result<(Expr, Level, &[Token]), Unread>
@@ -195,7 +195,7 @@ fn choice(alloc: Global, budget: u8, tokens: &[Token]) -> Result<(Expr, Level, &
     Ok((Expr::Choose { cond, yes, no }, Level::Whole, rest))
 }
 
-/// `(u)`, behind `present`.
+/// `(u)`, after `present`.
 #[tactic(auto, unfolding(crate::specs::Expressions::present_at))]
 fn present(alloc: Global, tokens: &[Token]) -> Result<(Expr, Level, &[Token]), Unread>
     ensures { GivesExpression result (present_at tokens.now) }
@@ -206,7 +206,7 @@ fn present(alloc: Global, tokens: &[Token]) -> Result<(Expr, Level, &[Token]), U
     Ok((Expr::Present(event), Level::Primary, rest))
 }
 
-/// What begins with a keyword, by the tokens behind it.
+/// An operand that begins with a keyword, from the tokens after it.
 #[cycle(reading)]
 fn keyword_operand(
     alloc: Global,
@@ -272,7 +272,7 @@ fn operand(
     }
 }
 
-/// The infix operation that the token is.
+/// The infix operation of the token.
 fn infix_of(token: &Token) -> Option<BinOp>
     ensures { result ≡ infix_of token.now }
 {
@@ -295,7 +295,8 @@ fn infix_of(token: &Token) -> Option<BinOp>
     }
 }
 
-/// The infix operation that comes first, behind a left side of the level `left`, where the grammar asks for `asked`.
+/// The infix operation that comes first, after a left side of level `left`, where the grammar requires level
+/// `asked`.
 fn infix_at(asked: Level, left: Level, tokens: &[Token]) -> Option<(BinOp, &[Token])>
     ensures { GivesInfix result (infix_at (grammar_level asked) (grammar_level left) tokens.now) }
 {
@@ -311,7 +312,7 @@ fn infix_at(asked: Level, left: Level, tokens: &[Token]) -> Option<(BinOp, &[Tok
     }
 }
 
-/// A left side with the infix operations behind it, where the grammar asks for `asked`.
+/// A left side with the infix operations after it, where the grammar requires level `asked`.
 #[cycle(reading)]
 #[tactic(auto, using(crate::proofs::InfixOperations::infix_at_rises))]
 fn climb(
@@ -341,8 +342,8 @@ fn climb(
     Ok((tree, level, rest))
 }
 
-/// An expression where the grammar asks for `asked`, whose parts are nested at most `budget` levels deep, and the
-/// tokens behind it.
+/// An expression where the grammar requires level `asked`, whose parts are nested at most `budget` levels deep, and
+/// the tokens after it.
 #[cycle(reading)]
 #[tactic(auto, using(crate::proofs::InfixOperations::read_step))]
 fn read(
@@ -357,7 +358,7 @@ fn read(
     climb(alloc, budget, asked, left, level, rest)
 }
 
-/// An expression with no token behind it.
+/// An expression with no token after it.
 #[tactic(auto, unfolding(crate::specs::Expressions::read_expression))]
 pub(crate) fn whole_expression(alloc: Global, tokens: &[Token]) -> Result<Expr, Unread>
     ensures { Gives result (read_expression tokens.now) }
@@ -369,14 +370,14 @@ pub(crate) fn whole_expression(alloc: Global, tokens: &[Token]) -> Result<Expr, 
     }
 }
 
-/// The expression that the tokens write.
+/// The expression that the tokens write. [`Unread::NoForm`] where they write none.
 pub fn expression(alloc: Global, tokens: &[Token]) -> Result<Expr, Unread>
     ensures { ReadsAs result (ExpressionIs tokens.now) }
 {
     whole_expression(alloc, tokens)
 }
 
-/// Tokens write one expression at most.
+/// A law: tokens write at most one expression.
 pub fn tokens_write_one_expression()
     ensures { WritesOneTree }
 {}

@@ -1,11 +1,12 @@
-//! Reading of one line of a model text: what its bytes tell, its form, and the expression on it.
+//! Reading of one line of a model text: what is known by its bytes, its form, and the expression on it.
 //!
-//! The layer above uses [`look_at`] (whether a line breaks a rule by its bytes, is blank, or is written), [`form_of_line`]
-//! (the form that a written line has, or that it has none), [`is_of_version_2`], and the laws: a line has one form at most
-//! ([`lines_have_one_form`]) and so have tokens one expression ([`tokens_write_one_expression`]).
+//! The layer above uses [`look_at`] (whether a line breaks a rule by its bytes, is blank, or has code),
+//! [`form_of_line`] (the form of a line with code, or that it has none), [`is_of_version_2`], and the laws: a line has
+//! at most one form ([`lines_have_one_form`]), and tokens write at most one expression
+//! ([`tokens_write_one_expression`]).
 //!
-//! Definitions: `Tokens`, `Phrases` and `LineForms` of `unit_tree`. How the reading goes about it stands in
-//! `specs/Expressions.antt` (an expression by its tokens) and `specs/LineReading.antt` (the form of a line).
+//! Definitions: `Tokens`, `Phrases` and `LineForms` of `unit_tree`. How the code reads is defined in
+//! `specs/Expressions.antt` (an expression from its tokens) and `specs/LineReading.antt` (the form of a line).
 #![tactic(auto)]
 
 mod expressions;

@@ -17,13 +17,13 @@ use unit_tree::{
     State, Symbol, Token, Wire,
 };
 
-/// The first number that no word of 64 bits is.
+/// The first number that does not fit a word of 64 bits.
 const WORD_END: u64 = 1 << 63;
 
 /// The newest version of the language.
 const NEWEST_VERSION: u64 = 2;
 
-/// The names of the integer types from 0 up, and of fixed point.
+/// The names of the unsigned integer types and of fixed point.
 const UINT8: &[u8] = b"UInt8";
 
 const UINT16: &[u8] = b"UInt16";
@@ -58,7 +58,7 @@ fn version_at(tokens: &[Token]) -> Result<(u8, &[Token]), Unread>
     }
 }
 
-/// The integer type from 0 up with the name.
+/// The unsigned integer type with the name.
 fn unsigned_type(name: &[u8]) -> Option<Ty>
     ensures { result ≡ unsigned_type name.now }
 {
@@ -87,7 +87,7 @@ fn plain_type(name: &[u8]) -> Option<Ty>
     }
 }
 
-/// The type with the name, and with the decimals behind it if it has them.
+/// The type with the name, with the decimals after it if it has them.
 #[tactic(auto, unfolding(crate::specs::LineReading::named_type))]
 fn named_type<'a>(name: &[u8], rest: &'a [Token]) -> Result<(Ty, &'a [Token]), Unread>
     ensures { GivesFront result (named_type name.now rest.now) }
@@ -134,7 +134,7 @@ fn port_at(alloc: Global, tokens: &[Token]) -> Result<(PortName, &[Token]), Unre
     Ok((PortName { instance, port }, rest))
 }
 
-/// The names and those that come behind them, each behind a comma.
+/// The names and those that follow them, each after a comma.
 #[cycle(naming)]
 fn more_names(
     alloc: Global,
@@ -149,7 +149,7 @@ fn more_names(
     }
 }
 
-/// The names with one that has to come next, as behind a comma, and those behind it.
+/// The names with one more, which has to come next, as after a comma, and those that follow it.
 #[cycle(naming)]
 #[tactic(auto, using(crate::proofs::NextNames::next_named, crate::proofs::NextNames::next_unnamed))]
 fn next_names(
@@ -185,7 +185,7 @@ fn number_literal(negative: bool, digits: u64, decimals: u8) -> Result<Literal, 
     }
 }
 
-/// The literal that is all of the tokens.
+/// The literal that all of the tokens write.
 fn whole_literal(tokens: &[Token]) -> Result<Literal, Unread>
     ensures { Gives result (literal_of tokens.now) }
 {
@@ -201,7 +201,7 @@ fn whole_literal(tokens: &[Token]) -> Result<Literal, Unread>
     }
 }
 
-/// The number of seconds, without a sign, that is all of the tokens.
+/// The number of seconds, without a sign, that all of the tokens write.
 fn whole_seconds(tokens: &[Token]) -> Result<Literal, Unread>
     ensures { Gives result (seconds_of tokens.now) }
 {
@@ -214,7 +214,7 @@ fn whole_seconds(tokens: &[Token]) -> Result<Literal, Unread>
     }
 }
 
-/// The form, where no token is left.
+/// The form, if no token is left.
 fn last(form: LineForm, rest: &[Token]) -> Result<LineForm, Unread>
     ensures { Gives result (last form rest.now) }
 {
@@ -343,7 +343,7 @@ fn event_output(alloc: Global, tokens: &[Token]) -> Result<LineForm, Unread>
     }))
 }
 
-/// A line of an event port, behind `event`.
+/// A line of an event port, after `event`.
 fn event_port(alloc: Global, tokens: &[Token]) -> Result<LineForm, Unread>
     ensures { Gives result (event_form tokens.now) }
 {
@@ -457,7 +457,7 @@ fn setting(name: Name, tokens: &[Token]) -> Result<LineForm, Unread>
     Ok(LineForm::Setting(Setting { name, value }))
 }
 
-/// A line that begins with the keyword, by the tokens behind it.
+/// A line that begins with the keyword, from the tokens after it.
 fn keyword_line(alloc: Global, keyword: Keyword, rest: &[Token]) -> Result<LineForm, Unread>
     ensures { Gives result (keyword_form keyword rest.now) }
 {
@@ -489,7 +489,7 @@ fn keyword_line(alloc: Global, keyword: Keyword, rest: &[Token]) -> Result<LineF
     }
 }
 
-/// A line that begins with the name, by the tokens behind it: an assignment or a setting.
+/// A line that begins with the name, from the tokens after it: an assignment or a setting.
 fn name_line(alloc: Global, name: Name, rest: &[Token]) -> Result<LineForm, Unread>
     ensures { Gives result (name_form name rest.now) }
 {
@@ -500,7 +500,7 @@ fn name_line(alloc: Global, name: Name, rest: &[Token]) -> Result<LineForm, Unre
     }
 }
 
-/// The form by the first token and those behind it.
+/// The form of a line, from its first token and those after it.
 #[tactic(auto, unfolding(crate::specs::LineReading::read_form))]
 fn whole_line(alloc: Global, tokens: &[Token]) -> Result<LineForm, Unread>
     ensures { Gives result (read_form tokens.now) }
@@ -515,15 +515,15 @@ fn whole_line(alloc: Global, tokens: &[Token]) -> Result<LineForm, Unread>
     }
 }
 
-/// The form that the tokens of a line write. Both versions of the language have their forms here; which of them a text
-/// is written in is judged by the layer above.
+/// The form that the tokens of a line write. The forms of both versions of the language are read here; the layer above
+/// judges which of them a text may have.
 pub fn line_form(alloc: Global, tokens: &[Token]) -> Result<LineForm, Unread>
     ensures { ReadsAs result (FormIs tokens.now) }
 {
     whole_line(alloc, tokens)
 }
 
-/// The form that a line, without its end, has.
+/// The form of a line, which is given without its end. [`Unread::NoForm`] where it has none.
 #[tactic(auto, using(crate::proofs::FormsOfLines::line_reads, crate::proofs::FormsOfLines::line_unspelled))]
 pub fn form_of_line(alloc: Global, line: &[u8]) -> Result<LineForm, Unread>
     ensures { ReadsAs result (LineHas line.now) }

@@ -1,4 +1,4 @@
-//! What a line's bytes tell, before its form is read.
+//! What is known of a line by its bytes, before its form is read.
 ghost use Rattle.std.specs.Prelude.{◌≡◌, ◌≤◌, ◌==◌, not, length};
 ghost use Rattle.std.specs.List.{list_all, prefix_len};
 ghost use Rattle.unit_tree.specs.Lines.{code_of, without_return, is_code_byte, is_blank_line, has_forbidden_byte};
@@ -10,19 +10,19 @@ use model_rules::{LONGEST_LINE, Rule};
 /// The byte that begins a comment.
 const COMMENT: u8 = b'#';
 
-/// The byte that may stand before a line's end, and belongs to it.
+/// The byte that may be before a line's end, and belongs to it.
 const RETURN: u8 = b'\r';
 
-/// What the bytes of a line tell.
+/// What is known of a line by its bytes.
 #[derive(Clone, Copy, Debug, PartialEq, Eq)]
 pub enum Seen {
-    /// The line breaks a rule, the least that it breaks.
+    /// The line breaks a rule; this is the least that it breaks.
     Broken(u8),
     Blank,
     Written,
 }
 
-/// How many bytes stand before the comment.
+/// How many bytes come before the comment.
 fn code_length(line: &[u8]) -> usize
     ensures length { result ≡ prefix_len (λ byte. not (byte == 35)) line.now }
     ensures within { result ≤ length line.now }
@@ -30,7 +30,7 @@ fn code_length(line: &[u8]) -> usize
     line.iter().take_while(|byte| **byte != COMMENT).count()
 }
 
-/// What stands before the comment.
+/// The bytes before the comment.
 pub fn code(line: &[u8]) -> &[u8]
     ensures { result.now ≡ code_of line.now }
 {
@@ -59,7 +59,7 @@ fn is_code_byte(byte: u8) -> bool
     (b' ' <= byte && byte <= b'~') || byte == b'\t'
 }
 
-/// Whether nothing stands on the line but spaces, tabs and a comment.
+/// Whether the line has only spaces, tabs and a comment.
 pub fn is_blank_line(line: &[u8]) -> bool
     ensures { result ≡ is_blank_line line.now }
 {
@@ -78,7 +78,7 @@ fn has_forbidden_byte(line: &[u8]) -> bool
     !is_code(code(line))
 }
 
-/// What the bytes of a line without its end tell.
+/// What is known of a line by its bytes, without its end.
 pub fn look_at(line: &[u8]) -> Seen
     ensures { TellsOf line.now result }
 {

@@ -1,4 +1,4 @@
-//! Which forms version 2 alone has.
+//! Which forms only version 2 has.
 ghost use Rattle.std.specs.Prelude.{◌≡◌};
 ghost use Rattle.unit_tree.specs.LineForms.{is_of_version_2};
 
@@ -7,7 +7,7 @@ use unit_tree::{LineForm, speaks_of_events};
 /// The version whose texts have the forms of both versions.
 pub const VERSION_2: u8 = 2;
 
-/// Whether version 2 alone has the form.
+/// Whether only version 2 has the form.
 pub fn is_of_version_2(form: &LineForm) -> bool
     ensures { result ≡ is_of_version_2 form.now }
 {

@@ -1,4 +1,4 @@
--- The bytes at a list's front that pass a test.
+-- The longest prefix of a list whose elements pass a test.
 use Rattle.std.proofs.Common.{◌≡◌, ℕ, suc, ◌+◌, Bool, true, false, cond, List, [], ◌∷◌, ◌++◌, length, take, drop, refl, one-add}
 use Rattle.std.specs.List.{list_all, prefix_len}
 use Rattle.std.proofs.lemmas.Bool.{and_parts, and_from}
@@ -32,6 +32,6 @@ prefix_len-front p (x ∷ xs) ys pass stops =
     let parts = and_parts (p x) (list_all p xs) pass in
     rw (parts.0, prefix_len-front p xs ys parts.1 stops) (one-add (length xs))
 
--- where the first passes, the front isn't empty
+-- where the first element passes, the prefix isn't empty
 pub prefix_len-some : (p : ℕ → Bool) (x : ℕ) (xs : List ℕ) → p x ≡ true → prefix_len p (x ∷ xs) ≡ suc (prefix_len p xs)
 prefix_len-some p x xs passes = rw passes (one-add (prefix_len p xs))

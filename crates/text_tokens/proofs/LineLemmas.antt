@@ -50,7 +50,7 @@ lines_of_one text n some past at =
 pub line_of_cut : (text : List ℕ) (n : ℕ) → n ≡ prefix_len (λ byte. not (byte == 10)) text → list_all (λ byte. not (byte == 10)) (take n text) ≡ true
 line_of_cut text n at = rw at (front_passes (λ byte. not (byte == 10)) text)
 
--- where an end follows it, the text is the line, that end and what is behind it
+-- where an end follows it, the text is the line, that end and what comes after
 behind_case : (byte : ℕ) (text : List ℕ) (b : Bool) → (byte == 10) ≡ b
     → (line_length text < length text → text ≡ take (line_length text) text ++ 10 ∷ drop (suc (line_length text)) text)
     → cond (not b) (1 + line_length text) 0 < suc (length text)

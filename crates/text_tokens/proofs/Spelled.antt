@@ -14,7 +14,7 @@ abbrev from_front : (List ℕ → Option (List Token)) → List ℕ → Option (
 from_front more [] = Some []
 from_front more (byte ∷ bytes) = then_more more (token_at (byte ∷ bytes))
 
--- The tokens of a line of at most so many.
+-- The tokens of a line, of which there are at most this many.
 unfoldable pub tokens_in : ℕ → List ℕ → Option (List Token)
 tokens_in zero line = None
 tokens_in (suc most) line = from_front (tokens_in most) (behind_blanks line)

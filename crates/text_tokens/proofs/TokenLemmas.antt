@@ -1,4 +1,4 @@
--- The token at the front of bytes is the one token that they begin with.
+-- The token that is found at the beginning of bytes is the one token that they begin with.
 use Rattle.std.proofs.Common.{◌≡◌, ℕ, suc, zero, ◌^◌, ◌<◌, ◌≤◌, Bool, true, false, not, cond, ◌&&◌, List, [], ◌∷◌, ◌++◌, length, take, drop, refl, ap, sym, ◌∙◌}
 use Rattle.std.proofs.Common.{arith, ◌==◌, nat_lt, Option, Some, None, append_assoc, option_and_then, IsTrue}
 use Rattle.std.specs.List.{list_all, prefix_len}
@@ -195,7 +195,7 @@ token_again (token.Name name) text rest spelled ends = rw spelled.0 (name_again 
 token_again (token.Number digits decimals) text rest spelled ends = number_again digits decimals text rest spelled ends.0 ends.1
 token_again (token.Symbol symbol) text rest spelled ends = rw spelled (symbol_again symbol rest ends)
 
--- a token's first byte is no blank
+-- a token's first byte is not a blank
 starts_apart : (test : ℕ → Bool) (text : List ℕ) → ((x : ℕ) → test x ≡ true → is_blank x ≡ false) → begins_with test text ≡ true → (rest : List ℕ)
     → begins_with is_blank (text ++ rest) ≡ false
 starts_apart test [] apart begins rest = absurd cc
@@ -228,7 +228,7 @@ token_apart (token.Name name) text rest spelled = rw spelled.0 (word_apart name 
 token_apart (token.Number digits decimals) text rest spelled = number_apart digits decimals text rest spelled
 token_apart (token.Symbol symbol) text rest spelled = rw spelled (sign_apart (symbol_text symbol) rest (symbol_is_text symbol))
 
--- the bytes behind the blanks
+-- the bytes after the blanks
 abbrev pub behind_blanks : List ℕ → List ℕ
 behind_blanks line = drop (prefix_len is_blank line) line
 
@@ -553,7 +553,7 @@ tokens_none line some e (token ∷ others) (after, begins, more) =
     let read = first_again line token after begins in
     absurd cc
 
--- what the rest spells, behind the tokens so far, is what the line spells
+-- the tokens of the rest, after the tokens so far, are the tokens of the line
 pub record Completes (line : List ℕ) (tokens : List Token) (rest : List ℕ) : Type 0 where
   pub by : (found : Option (List Token)) → TokensAre rest found → TokensAre line (option_map (λ others. tokens ++ others) found)
 
@@ -592,7 +592,7 @@ pub completes_fail : (line : List ℕ) (tokens : List Token) (rest behind : List
 completes_fail line tokens rest behind so_far at some e =
     so_far.by None (tokens_none rest (rw (← at) some) (rw (← at) e))
 
--- a line spells tokens in one way
+-- a line spells at most one list of tokens
 pub spells_one : (tokens others : List Token) (line : List ℕ) → Spells tokens line → Spells others line → tokens ≡ others
 spells_one [] [] line a b = refl
 spells_one [] (other ∷ others) line a (rest, begins, more) =
@@ -603,7 +603,7 @@ spells_one (token ∷ tokens) others line (rest, begins, more) b =
     let parts = spells_some others line token rest (first_again line token rest begins) b in
     ap (λ (t : List Token). token ∷ t) (spells_one tokens parts.0 rest more parts.2) ∙ sym parts.1
 
--- every line spells tokens, or it spells none
+-- it is decided whether a line spells tokens
 abbrev pub Tokenized : List ℕ → Type 0
 Tokenized line = (found : Option (List Token)) × TokensAre line found
 

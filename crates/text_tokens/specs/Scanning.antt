@@ -1,4 +1,4 @@
--- Reading of bytes as tokens, and what a reading may answer.
+-- Reading of bytes as tokens, and what a result of it states.
 use Rattle.std.specs.Prelude.{◌≡◌, ℕ, ◌^◌, List, [], ◌∷◌, length, take, drop, find, Option, Some, None, Result, Ok, Err, ⊤, if◌then◌else◌, nat_le, nat_lt, ◌==◌}
 use Rattle.std.specs.Prelude.{option_and_then}
 use Rattle.std.specs.Borrow.{Bor}
@@ -16,20 +16,20 @@ use Rattle.unit_tree.specs.declared.token.Token.TheVariants as token
 use Rattle.text_tokens.specs.declared.fault.Unread.{Unread}
 use Rattle.text_tokens.specs.declared.fault.Unread.TheVariants as unread
 
--- What a reading says of its answer: it holds of what was read, and of none only where nothing may be read.
--- Want of memory says nothing.
+-- What the result of a reading states: the property holds of what was read, or of `None` where nothing can
+-- be read. Without memory it states nothing.
 abbrev pub ReadsAs : {X : Type 0} → Result X Unread → (Option X → Type 0) → Type 0
 ReadsAs (Ok x) Says = Says (Some x)
 ReadsAs (Err unread.NoForm) Says = Says None
 ReadsAs (Err unread.NoMemory) Says = ⊤
 
--- The answer is what reading gives.
+-- The result is what the definition of the reading gives.
 abbrev pub Gives : {X : Type 0} → Result X Unread → Option X → Type 0
 Gives (Ok x) read = read ≡ Some x
 Gives (Err unread.NoForm) read = read ≡ None
 Gives (Err unread.NoMemory) read = ⊤
 
--- The answer is what reading the front gives, with the rest behind it.
+-- The result is what the definition of the reading gives for the beginning, with the rest after it.
 abbrev pub GivesFront : {X Y : Type 0} → Result (X × Bor (List Y)) Unread → Option (X × List Y) → Type 0
 GivesFront (Ok x) read = read ≡ Some (x.0, x.1.now)
 GivesFront (Err unread.NoForm) read = read ≡ None
@@ -81,15 +81,15 @@ abbrev pub symbols_like : List ℕ → List Symbol
 symbols_like [] = []
 symbols_like (first ∷ others) = symbols_from first
 
--- The keyword that the text spells.
+-- The keyword that the text spells, or `None`.
 unfoldable pub keyword_of : List ℕ → Option Keyword
 keyword_of text = find (λ keyword. bytes_eq (keyword_text keyword) text) (keywords_like text)
 
--- The symbol that the text spells.
+-- The symbol that the text spells, or `None`.
 unfoldable pub symbol_of : List ℕ → Option Symbol
 symbol_of text = find (λ symbol. bytes_eq (symbol_text symbol) text) (symbols_like text)
 
--- The token of a word that may be a keyword: if it is none, a name of at most 32 bytes.
+-- The token of a word that may be a keyword. If it is not, the token is a name, which has at most 32 bytes.
 abbrev pub named : List ℕ → Option Keyword → Option Token
 named text (Some keyword) = Some (token.Keyword keyword)
 named text None = if nat_lt name_limit (length text) then None else Some (token.Name text)
@@ -97,21 +97,22 @@ named text None = if nat_lt name_limit (length text) then None else Some (token.
 abbrev pub word_token : List ℕ → Option Token
 word_token text = named text (keyword_of text)
 
--- What is read, with the rest behind it.
+-- What is read, with the rest after it.
 abbrev pub with_rest : {X Y : Type 0} → Option X → Y → Option (X × Y)
 with_rest None rest = None
 with_rest (Some x) rest = Some (x, rest)
 
--- The word at the front, as far as it goes.
+-- The word at the beginning, as long as possible.
 unfoldable pub word_at : List ℕ → Option (Token × List ℕ)
 word_at bytes = with_rest (word_token (take (prefix_len is_word_byte bytes) bytes)) (drop (prefix_len is_word_byte bytes) bytes)
 
--- The number that digits are written for, the digits before them counting first, where it is at most 2^63.
+-- The number of the digits, after the number of the digits before them, where it is at most 2^63.
 unfoldable pub bounded_number : ℕ → List ℕ → Option ℕ
 bounded_number before digits =
     if nat_le (number_from before digits) (2 ^ 63) then Some (number_from before digits) else None
 
--- The digits of a fraction whose point comes first, and the rest; no digits where there is none.
+-- The digits of the fraction after a point that comes first, and the rest. No digits where no fraction
+-- comes first.
 abbrev pub fraction_of : List ℕ → List ℕ × List ℕ
 fraction_of [] = ([], [])
 fraction_of (byte ∷ bytes) =
@@ -119,13 +120,13 @@ fraction_of (byte ∷ bytes) =
     (if prefix_len is_digit bytes == 0 then ([], byte ∷ bytes) else (take (prefix_len is_digit bytes) bytes, drop (prefix_len is_digit bytes) bytes)) else
     ([], byte ∷ bytes)
 
--- The number with these digits before and behind its point.
+-- The number with these digits before and after its point.
 unfoldable pub number_token : List ℕ → List ℕ → Option Token
 number_token whole fraction =
     if nat_lt decimals_limit (length fraction) then None else option_and_then
     (λ before. option_and_then (λ digits. Some (token.Number digits (length fraction))) (bounded_number before fraction)) (bounded_number 0 whole)
 
--- The number at the front, as far as it goes.
+-- The number at the beginning, as long as possible.
 unfoldable pub number_at : List ℕ → Option (Token × List ℕ)
 number_at bytes =
     let whole = take (prefix_len is_digit bytes) bytes in
@@ -136,18 +137,18 @@ abbrev pub symbol_token : Option Symbol → Option Token
 symbol_token None = None
 symbol_token (Some symbol) = Some (token.Symbol symbol)
 
--- The symbol at the front: of two bytes if there is one, and else of one.
+-- The symbol at the beginning: one of two bytes if there is one, else one of one byte.
 unfoldable pub symbol_at : List ℕ → Option (Token × List ℕ)
 symbol_at bytes =
     option_or (with_rest (symbol_token (symbol_of (take 2 bytes))) (drop 2 bytes)) (with_rest (symbol_token (symbol_of (take 1 bytes))) (drop 1 bytes))
 
--- The token at the front of bytes that begin with no blank.
+-- The token at the beginning of bytes that don't begin with a blank.
 unfoldable pub token_at : List ℕ → Option (Token × List ℕ)
 token_at [] = None
 token_at (first ∷ others) =
     if is_letter first then word_at (first ∷ others) else (if is_digit first then number_at (first ∷ others) else symbol_at (first ∷ others))
 
--- The tokens that the line spells, or that it spells none.
+-- The tokens that the line spells; `None` states that it spells none.
 abbrev pub TokensAre : List ℕ → Option (List Token) → Type 0
 TokensAre line None = (tokens : List Token) → Spells tokens line → ⊥
 TokensAre line (Some tokens) = Spells tokens line

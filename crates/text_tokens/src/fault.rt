@@ -2,10 +2,10 @@ ghost use Rattle.std.specs.Prelude.{◌≡◌};
 
 use fixed_words::NoMemory;
 
-/// Why a part of a text is not read.
+/// Why a part of a text was not read.
 #[derive(Clone, Copy, Debug, PartialEq, Eq)]
 pub enum Unread {
-    /// It is nothing that the language has.
+    /// It has none of the forms of the language.
     NoForm,
     NoMemory,
 }

@@ -1,13 +1,12 @@
-//! The lines of a model text, and the tokens of the whole language that a line's code spells. A carriage return
-//! before an end and a comment are left to the layer above.
+//! The lines of a model text, and the tokens that the code of a line spells. The layer above removes a carriage
+//! return before the line end, and the comment.
 //!
-//! The layer above uses [`size`] (how long a text counts), [`cut_line`] (the first line of a text) and
-//! [`tokens`] (what code spells, or that it spells no tokens), and [`Unread`], the two ways in which a part
-//! of a text is not read. That each line spells tokens in one way at most, and that it is decided whether it
-//! spells any, are lemmas of `proofs/TokenLemmas.antt`.
+//! The layer above uses [`size`] (how many bytes a text counts), [`cut_line`] (the first line of a text) and
+//! [`tokens`] (the tokens that code spells, or that it spells none). [`Unread`] has the two reasons why a part
+//! of a text was not read. Lemmas of `proofs/TokenLemmas.antt` prove that each line spells at most one list of
+//! tokens, and that it is decided whether it spells any.
 //!
-//! Definitions: `Lines` and `Tokens` of `unit_tree`. How the reading goes about it stands in
-//! `specs/Scanning.antt`.
+//! Definitions: `Lines` and `Tokens` of `unit_tree`. How the code reads is defined in `specs/Scanning.antt`.
 #![tactic(auto)]
 
 mod fault;

@@ -2,7 +2,7 @@ ghost use Rattle.std.specs.Prelude.{◌≡◌, ◌⊎◌, ◌<◌, ◌≤◌, �
 ghost use Rattle.std.specs.List.{list_all, prefix_len};
 ghost use Rattle.unit_tree.specs.Lines.{lines_of, size_of};
 
-/// What ends a line.
+/// The byte that ends a line.
 const LINE_END: u8 = b'\n';
 
 /// How many bytes come before the first line's end, or before the text's.
@@ -13,8 +13,8 @@ fn line_length(text: &[u8]) -> usize
     text.iter().take_while(|byte| **byte != LINE_END).count()
 }
 
-/// The first line, without its end, and the text behind it: all of the text where no line feed stands in it, and then
-/// nothing is behind it.
+/// The first line, without its end, and the text after it. Where the text has no line feed, the line is all of it and
+/// nothing follows.
 #[tactic(auto, using(crate::proofs::LineLemmas::line_laws))]
 pub fn cut_line(text: &[u8]) -> (&[u8], &[u8])
     requires { 0 < length text.now }
@@ -32,7 +32,7 @@ pub fn cut_line(text: &[u8]) -> (&[u8], &[u8])
     }
 }
 
-/// How many bytes the text has, with an end counted for each line.
+/// How many bytes the text has, where each line counts a line end, also a last line without one.
 #[tactic(auto, using(crate::proofs::LineLemmas::size_of_snoc))]
 pub fn size(text: &[u8]) -> usize
     ensures { result ≡ size_of text.now }

@@ -9,10 +9,10 @@ use model_rules::{LONGEST_NAME, MOST_DECIMALS};
 use std::alloc::Global;
 use unit_tree::{Keyword, Symbol, Token, begins_with_word_byte, is_letter, is_word_byte};
 
-/// The greatest number that a token may be.
+/// The greatest number of a token.
 const GREATEST_NUMBER: u64 = 1 << 63;
 
-/// The keywords that begin with this byte: no more than four.
+/// The keywords that begin with this byte: at most four.
 fn keywords_from(first: u8) -> &'static [Keyword]
     ensures { result.now ≡ keywords_from first }
 {
@@ -43,7 +43,7 @@ fn keywords_from(first: u8) -> &'static [Keyword]
     }
 }
 
-/// The symbols that begin with this byte: no more than two.
+/// The symbols that begin with this byte: at most two.
 fn symbols_from(first: u8) -> &'static [Symbol]
     ensures { result.now ≡ symbols_from first }
 {
@@ -119,7 +119,7 @@ fn is_digit(byte: u8) -> bool
     byte.is_ascii_digit()
 }
 
-/// How many blanks come first.
+/// How many blanks the bytes begin with.
 fn blanks_length(bytes: &[u8]) -> usize
     ensures length { result ≡ prefix_len is_blank bytes.now }
     ensures within { result ≤ length bytes.now }
@@ -127,7 +127,7 @@ fn blanks_length(bytes: &[u8]) -> usize
     bytes.iter().take_while(|byte| is_blank(**byte)).count()
 }
 
-/// How many bytes of a word come first.
+/// How many bytes of a word the bytes begin with.
 fn word_length(bytes: &[u8]) -> usize
     ensures length { result ≡ prefix_len is_word_byte bytes.now }
     ensures within { result ≤ length bytes.now }
@@ -135,7 +135,7 @@ fn word_length(bytes: &[u8]) -> usize
     bytes.iter().take_while(|byte| is_word_byte(**byte)).count()
 }
 
-/// How many digits come first.
+/// How many digits the bytes begin with.
 fn digits_length(bytes: &[u8]) -> usize
     ensures length { result ≡ prefix_len is_digit bytes.now }
     ensures within { result ≤ length bytes.now }
@@ -161,7 +161,8 @@ fn word_at(alloc: Global, bytes: &[u8]) -> Result<(Token, &[u8]), Unread>
     Ok((word_token(alloc, text)?, rest))
 }
 
-/// The number that digits are written for, those of `before` counting first.
+/// The number of the digits, after `before`, the number of the digits before them. `NoForm` above
+/// 2^63.
 #[tactic(auto, unfolding(crate::specs::Scanning::bounded_number), using(crate::proofs::NumberLemmas::bounded_number_at))]
 fn bounded_number(before: u64, digits: &[u8]) -> Result<u64, Unread>
     requires { before ≤ 2 ^ 63 }
@@ -180,7 +181,8 @@ fn bounded_number(before: u64, digits: &[u8]) -> Result<u64, Unread>
     Ok(number)
 }
 
-/// The digits of a fraction whose point comes first, and the rest; no digits where there is none.
+/// The digits of the fraction after a point that comes first, and the rest. No digits where no
+/// fraction comes first.
 fn fraction_of(bytes: &[u8]) -> (&[u8], &[u8])
     ensures digits { result.0.now ≡ (fraction_of bytes.now).0 }
     ensures rest { result.1.now ≡ (fraction_of bytes.now).1 }
@@ -223,7 +225,7 @@ fn number_at(bytes: &[u8]) -> Result<(Token, &[u8]), Unread>
     Ok((number_token(whole, fraction)?, rest))
 }
 
-/// The bytes at the front, at most `count` of them, and the rest.
+/// The first bytes, at most `count` of them, and the rest.
 #[tactic(auto, using(std::proofs::lemmas::List::take_min, std::proofs::lemmas::List::drop_min))]
 fn cut(bytes: &[u8], count: usize) -> (&[u8], &[u8])
     ensures front { result.0.now ≡ take count bytes.now }
@@ -247,7 +249,7 @@ fn symbol_at(bytes: &[u8]) -> Result<(Token, &[u8]), Unread>
     }
 }
 
-/// The token at the front of bytes that begin with no blank.
+/// The token at the beginning of bytes that don't begin with a blank, and the rest.
 #[tactic(auto, unfolding(crate::specs::Scanning::token_at))]
 fn token_at(alloc: Global, bytes: &[u8]) -> Result<(Token, &[u8]), Unread>
     ensures { GivesFront result (token_at bytes.now) }
@@ -260,7 +262,7 @@ fn token_at(alloc: Global, bytes: &[u8]) -> Result<(Token, &[u8]), Unread>
     }
 }
 
-/// The tokens of a line.
+/// The tokens of a line. [`Unread::NoForm`] where the line spells no tokens.
 #[tactic(auto, using(crate::proofs::TokenLemmas::completes_none, crate::proofs::TokenLemmas::completes_more, crate::proofs::TokenLemmas::completes_end, crate::proofs::TokenLemmas::completes_fail, crate::proofs::TokenLemmas::token_at_shorter))]
 pub fn tokens(alloc: Global, line: &[u8]) -> Result<List<Token>, Unread>
     ensures { ReadsAs result (TokensAre line.now) }

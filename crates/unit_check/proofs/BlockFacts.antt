@@ -1,4 +1,4 @@
--- What the lines of a block tell: the names that they declare, the ports that they connect and sample.
+-- The items of a block's lines: the names that they declare, the ports that they connect and sample.
 use Rattle.std.proofs.Common.{◌≡◌, List, [], ◌∷◌, ◌++◌, map, Option, Some, None, append_assoc, refl, ap, ◌∙◌, map-id}
 use Rattle.std.specs.List.{filter_map, cons_option}
 use Rattle.std.proofs.lemmas.List.{append-nil, map-append}
@@ -18,7 +18,7 @@ use Rattle.unit_tree.specs.declared.system.System.{System}
 use Rattle.unit_tree.specs.declared.unit.Unit.{Unit}
 
 module _ {A : Type 0} (asked : LineForm → Option A) where
-  -- What lines and their blocks tell.
+  -- The items of lines and their blocks.
   abbrev pub told : List Headed → List A
   told headed = filter_map asked (heads headed)
 

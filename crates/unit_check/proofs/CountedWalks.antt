@@ -1,4 +1,4 @@
--- Walks along lines whose places are counted from a first number.
+-- Walks over lines whose places are counted from a first number.
 use Rattle.std.proofs.Common.{◌≡◌, ℕ, ◌+◌, ◌-◌, List, [], ◌∷◌, ◌++◌, map, length, Ok, Some, None, append_assoc, refl, ap, sym, ◌∙◌, subst, arith}
 use Rattle.std.specs.List.{flat_map}
 use Rattle.std.proofs.lemmas.List.{append-nil, length-append}
@@ -16,7 +16,7 @@ use Rattle.unit_tree.specs.declared.unit.Unit.{Unit}
 -- Lines of one scope, each of which counts for the next ones.
 module _ (test : Test) (scope : Scope) (count : List LineForm → ℕ)
     (adds : (front behind : List LineForm) → count (front ++ behind) ≡ count front + count behind) (first : ℕ) where
-  -- A walk goes along these lines behind earlier ones.
+  -- A walk goes over these lines after earlier ones.
   abbrev pub Counts : List LineForm → Walk → List LineForm → Type 0
   Counts earlier walked lines = (number : ℕ) → number ≡ first + count earlier → walked number ≡ walk (test_at test) number (line_sites scope earlier lines)
 

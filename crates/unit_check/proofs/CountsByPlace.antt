@@ -39,7 +39,7 @@ or_twice true = refl
 or_twice false = refl
 
 module _ (system : System) (scope : Scope) where
-  -- How many lines of the plain form that some lines become are alike to this one.
+  -- How many lines of the plain form that some lines become have the same keyword as this one.
   abbrev pub alike : LineForm → List LineForm → ℕ
   alike probe lines = count_by (are_alike probe) (flat_map (plain_forms system scope) lines)
 
@@ -48,7 +48,8 @@ module _ (system : System) (scope : Scope) where
       ap (count_by (are_alike probe)) (flat_map-append (plain_forms system scope) front behind)
       ∙ sum_by-append _ (flat_map (plain_forms system scope) front) (flat_map (plain_forms system scope) behind)
 
-  -- Lines with how many they count for, and how many names they declare.
+  -- Lines, with the number of plain lines that they count for and the number of names that they
+  -- declare.
   abbrev Measured : LineForm → List LineForm → ℕ → ℕ → Type 0
   Measured probe lines count names = (alike probe lines ≡ count) × (bridge.told name_declared lines ≡ names)
 
@@ -72,7 +73,7 @@ module _ (system : System) (scope : Scope) where
       let n = rest.1 in
       (counts ∙ rw (w, c) (grind (arith)), names ∙ rw (t, n) (grind (arith)))
 
-  -- Lines of one form behind others.
+  -- Lines of one form after others.
   abbrev EachBehind : {A : Type 0} → (Site → Type 0) → (A → LineForm) → List LineForm → Type 0
   EachBehind {A} P said before = (front : List A) (x : A) → P (record { scope = scope; earlier = before ++ map said front; line = said x })
 
@@ -86,7 +87,7 @@ module _ (system : System) (scope : Scope) where
         (each_behind P said before holds (front ++ (x ∷ [])) xs),
   )
 
-  -- How many are alike to a line of a form, with it, and which place it has.
+  -- How many lines, up to a line of a form, have the same keyword as it, and which place it has.
   counts_at : {A : Type 0} (probe : LineForm) (weight : ℕ) (said : A → LineForm) → ((x : A) → alike probe (said x ∷ []) ≡ weight)
       → ((x : A) → bridge.told name_declared (said x ∷ []) ≡ 1) → (before : List LineForm) (c n : ℕ) → Measured probe before c n → (front : List A) (x : A)
       → (alike probe ((before ++ map said front) ++ (said x ∷ [])) ≡ (c + weight * length front) + weight)
@@ -109,7 +110,7 @@ module _ (system : System) where
   OfUnit (UnitScope unit) claim = claim
   OfUnit _ claim = ⊤
 
-  -- What lines of units have to keep.
+  -- What is known of lines of units.
   abbrev pub InUnit : Site → Type 0
   InUnit site = OfUnit site.scope (Agrees site)
 
@@ -157,7 +158,7 @@ module _ (system : System) where
     abbrev Counted : LineForm → List LineForm → ℕ → ℕ → Type 0
     Counted = Measured system scope
 
-    -- What stands in front of each list, by how many lines of it are alike to one.
+    -- What comes before each list, by how many lines of it have the same keyword as one.
     module _ (probe : LineForm) (on_resolution : (x : ℕ) → alike system scope probe (form.Resolution x ∷ []) ≡ 0) where
       at_first : Counted probe resolution 0 0
       at_first = step unit.resolution
@@ -280,7 +281,7 @@ module _ (system : System) where
         omega (arith, counts.0, counts.1) in
         ap (nat_lt 32) same ∙ or_twice (nat_lt 32 (alike system scope probe (earlier ++ (form.EventOutput x ∷ []))))
 
-    -- All lines of one list, behind what stands in front.
+    -- All lines of one list, after what comes before.
     list_agrees : {A : Type 0} (said : A → LineForm) (before : List LineForm) → EachBehind system scope InUnit said before → (xs : List A)
         → AllByRecursion InUnit (line_sites scope before (map said xs))
     list_agrees said before holds xs =
@@ -347,7 +348,7 @@ module _ (system : System) where
   wire_weight probe wire true none = rw (none wire) refl
   wire_weight probe wire false none = rw (none wire) refl
 
-  -- Lines that tell what is asked are those that are alike to a line, one for one.
+  -- Lines that have the item are those with the same keyword as a line, one for one.
   counted_on_top : {A : Type 0} (asked : LineForm → Option A) (probe : LineForm)
       → ((line : LineForm) → alike system TopScope probe (line ∷ []) ≡ length (filter_map asked (line ∷ []))) → (lines : List LineForm)
       → alike system TopScope probe lines ≡ bridge.told asked lines
@@ -372,7 +373,7 @@ module _ (system : System) where
   sample_line port (form.Connect wire) = wire_weight (form.Sample port) wire (is_event_output system wire.from) (λ other. refl)
   sample_line port _ = refl
 
-  -- Connections, by how many they are in the plain form.
+  -- Connections, with how many they are in the plain form.
   abbrev wire_count : List LineForm → ℕ
   wire_count lines = length (flat_map (plain_wires system) (filter_map wire_on lines))
 

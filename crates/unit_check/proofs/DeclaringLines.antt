@@ -1,4 +1,4 @@
--- The walk with the question which line declares an output finds its line.
+-- The walk that searches the line which declares an output finds it.
 use Rattle.std.proofs.Common.{◌≡◌, ℕ, suc, ◌+◌, Bool, true, false, List, [], ◌∷◌, Option, Some, None, Result, Ok, Err, refl, ap, sym, ◌∙◌, subst, add-one}
 use Rattle.std.specs.Prelude.{nat_eq, if◌then◌else◌, IfOk, ⊤}
 use Rattle.std.specs.List.{find, enumerate_from}
@@ -19,7 +19,8 @@ use Rattle.unit_tree.specs.declared.unit.Unit.{Unit}
 abbrev pub first_at : (Site → Bool) → ℕ → List Site → Option ℕ
 first_at test number sites = option_map (λ at. at.0) (find (λ at. test at.1) (enumerate_from number sites))
 
--- What a walk says of that number: it comes to the end where there is none, and stops there.
+-- The result of a walk for that number: it reaches the end where there is none, and else stops
+-- there.
 abbrev pub TellsFirst : Result ℕ Stop → Option ℕ → Type 0
 TellsFirst (Ok behind) found = found ≡ None
 TellsFirst (Err (stop.At line)) found = found ≡ Some line
@@ -64,7 +65,7 @@ none_first name number (site ∷ sites) = none_first name (number + 1) sites
 pub none_found : (system : System) (port : PortName) → unit_at system port ≡ None → line_of_output system port ≡ None
 none_found system port is = ap (line_in system port.port) is ∙ none_first port.port 1 (sites_of system)
 
--- What the end of the walk, and its stop at a line, say.
+-- What follows from the end of the walk, and from its stop at a line.
 pub none_at_end : (system : System) (port : PortName) (unit : Unit) (met : Result ℕ Stop) (behind : ℕ) → Some unit ≡ unit_at system port
     → met ≡ system_walk (declaring port.port unit) system 1 → met ≡ Ok behind → None ≡ line_of_output system port
 none_at_end system port unit met behind at walked ended =

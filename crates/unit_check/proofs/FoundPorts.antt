@@ -15,7 +15,7 @@ use Rattle.unit_tree.specs.declared.system.PortName.{PortName}
 use Rattle.unit_tree.specs.declared.system.System.{System}
 use Rattle.unit_tree.specs.declared.unit.Unit.{Unit}
 
--- Both are found, with one type, and event ports or not alike; or none is.
+-- Both are found, with the same type, and both or neither are event ports; or none is found.
 abbrev pub Same : Option Declared → Option Port → Type 0
 Same None None = ⊤
 Same (Some declared) (Some port) = (declared.ty ≡ port.ty) × (declared.is_event ≡ port.is_event)

@@ -1,4 +1,4 @@
--- A walk along units or ports by their numbers.
+-- A walk over units or ports by their numbers.
 use Rattle.std.proofs.Common.{◌≡◌, ℕ, zero, suc, ◌+◌, List, [], ◌∷◌, drop, Result, Ok, refl, ap, sym, ◌∙◌, add-one}
 use Rattle.std.specs.List.{slice_get}
 use Rattle.unit_check.specs.Walks.{Test, onward, units_walk, numbered_walk}
@@ -13,7 +13,7 @@ unit_on test start (suc place) number [] = refl
 unit_on test start zero number (unit ∷ units) = refl
 unit_on test start (suc place) number (unit ∷ units) = unit_on test start place number units
 
--- Past the unit of a place.
+-- Over the unit at a place.
 pub passed : (test : Test) (place number behind : ℕ) (units : List Unit) (met : Result ℕ Stop) → met ≡ numbered_walk test place (slice_get units place) number
     → met ≡ Ok behind → units_walk test place (drop place units) number ≡ units_walk test (place + 1) (drop (place + 1) units) behind
 passed test place number behind units met is was =

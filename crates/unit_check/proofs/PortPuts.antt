@@ -1,4 +1,4 @@
--- What a table of ports finds after a port was noted.
+-- What a table of ports finds after a port was added.
 use Rattle.std.proofs.Common.{◌≡◌, ℕ, Bool, true, false, ◌&&◌, List, Some, None, bytes_eq, refl, ap, sym, subst, ◌∙◌}
 use mathlib.Core.Bool.{cond}
 use Rattle.std.specs.Borrow.{Bor}
@@ -67,7 +67,7 @@ same_tests key port instance_is port_is =
     ap (λ i. λ (other : Key). bytes_eq i other.0.now && bytes_eq key.1.now other.1.now) instance_is
     ∙ ap (λ p. λ (other : Key). bytes_eq port.instance other.0.now && bytes_eq p other.1.now) port_is
 
--- The same where the key was made of the names of the port.
+-- The same where the key has the names of the port.
 pub put_key : (key : Key) (port other : PortName) (value : ℕ) (old new : List (Key × ℕ)) → key.0.now ≡ port.instance → key.1.now ≡ port.port
     → lookup (same_key key) new ≡ Some value → KeepsOthers same_key (same_key key) old new
     → lookup (names_port other) new ≡ cond (same_port port other) (Some value) (lookup (names_port other) old)

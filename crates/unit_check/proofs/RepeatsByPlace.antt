@@ -1,4 +1,4 @@
--- A thing is said again where its first place is before its own.
+-- An item is repeated where its first place is before its own.
 use Rattle.std.proofs.Common.{◌≡◌, ℕ, suc, ◌+◌, ◌≤◌, Bool, true, false, ◌||◌, List, [], ◌∷◌, ◌++◌, map, length, Option, Some, refl, ap, sym, ◌∙◌, arith}
 use mathlib.Core.Bool.{cond}
 use Rattle.std.specs.List.{list_any, filter_map, position_from}
@@ -40,7 +40,7 @@ said_from test from (thing ∷ before) behind = step (test thing) (said_from tes
     step true rest = grind (arith)
     step false rest = ap (λ n. is_before n (position_from test (from + 1) (before ++ behind))) (omega arith) ∙ rest
 
--- A thing stands before its own place exactly where it stands at an earlier line.
+-- An item is before its own place exactly where it is on an earlier line.
 said_again : {A : Type 0} (asked : LineForm → Option A) (test : A → Bool) (lines earlier rest : List LineForm) (all : List A) → filter_map asked lines ≡ all
     → lines ≡ earlier ++ rest → is_before (length (filter_map asked earlier)) (position_from test 0 all) ≡ list_any test (filter_map asked earlier)
 said_again asked test lines earlier rest all tells cut =

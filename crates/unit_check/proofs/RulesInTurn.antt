@@ -1,4 +1,4 @@
--- Rules one after the other.
+-- Rules in turn.
 use Rattle.std.proofs.Common.{◌≡◌, List, [], ◌∷◌, map, Some, None, refl, ap, sym, subst, ◌∙◌}
 use Rattle.unit_check.specs.Rules.{Tells, TellsRule, IsFaultOf, breaks_of, defined, judged, number_of}
 use Rattle.unit_check.specs.declared.checking.CheckFault.{CheckFault}
@@ -30,6 +30,6 @@ judged_is = refl
 pub kept : (system : System) → refusal_by judged system ≡ None → IsWellFormed system
 kept system none = (well_formed system).1 (ap (λ all. refusal_by all system) (sym judged_is) ∙ none)
 
--- What is told of them is told of the system.
+-- A fault that is the refusal by these rules is that of the system.
 pub refused : (system : System) (why : CheckFault) → Tells why (refusal_by judged system) → IsFaultOf system why
 refused system why told = subst (λ all. Tells why (refusal_by all system)) judged_is told

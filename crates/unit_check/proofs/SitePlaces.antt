@@ -1,4 +1,4 @@
--- Where each site of a system stands: among the lines of its own block, behind those that count as earlier.
+-- Where each site of a system is: among the lines of its own block, after those that count as earlier.
 use Rattle.std.proofs.Common.{◌≡◌, List, [], ◌∷◌, ◌++◌, map, Option, Some, None, append_assoc, refl, ap, sym, subst, ◌∙◌}
 use Rattle.std.specs.List.{AllByRecursion, flat_map}
 use Rattle.unit_check.proofs.SiteWalks.{heads, heads_alone, line_sites}
@@ -23,7 +23,7 @@ pub all_two : {A : Type 0} (P Q R : A → Type 0) → ((x : A) → P x → Q x �
 all_two P Q R leads [] one other = _
 all_two P Q R leads (x ∷ xs) one other = (leads x one.0 other.0, all_two P Q R leads xs one.1 other.1)
 
--- ---- What holds in all blocks
+-- ---- What is true in all blocks
 
 module _ (P : Site → Type 0) where
   -- All sites of the blocks that lines open.
@@ -83,13 +83,13 @@ module _ (P : Site → Type 0) where
           (inside_alone (optional form.Zero system.zero)))
           (inside_alone (optional form.Rows system.rows))
 
--- ---- Standing
+-- ---- The place of a site
 
 abbrev pub lines_in_step : Option (List Line) → List LineForm
 lines_in_step None = []
 lines_in_step (Some lines) = flat_map line_forms lines
 
--- The lines of the block that a scope is.
+-- The lines of the block with this scope.
 abbrev pub lines_of : System → Scope → List LineForm
 lines_of system TopScope = heads (whole system)
 lines_of system (UnitScope unit) = heads (block unit)

@@ -1,4 +1,4 @@
--- Walks along sites.
+-- Walks over sites.
 use Rattle.std.proofs.Common.{◌≡◌, ℕ, suc, ◌+◌, Bool, true, false, List, [], ◌∷◌, ◌++◌, map, length, Result, Ok, Err, append_assoc, refl, ap, sym, ◌∙◌, arith}
 use Rattle.std.specs.Prelude.{if◌then◌else◌, nat_eq}
 use Rattle.std.proofs.lemmas.List.{append-nil, map-append}
@@ -57,7 +57,7 @@ pub onward_none : (met : Result ℕ Stop) → onward met (λ n. Ok n) ≡ met
 onward_none (Ok n) = refl
 onward_none (Err why) = refl
 
--- A walk along sites, up to the first one that passes the test.
+-- A walk over sites, up to the first one that passes the test.
 abbrev pub walk : (Site → Bool) → ℕ → List Site → Result ℕ Stop
 walk test number [] = Ok number
 walk test number (site ∷ sites) = onward (past (test site) number) (λ n. walk test n sites)
@@ -70,7 +70,7 @@ walk_on test number (site ∷ front) behind =
     (λ n is. walk_on test n front behind)
     ∙ sym (onward_onward (past (test site) number) (λ n. walk test n front) (λ n. walk test n behind))
 
--- The number behind a line is the next one.
+-- The number after a line is the next one.
 pub next_number : (met : Bool) (number behind : ℕ) → past met number ≡ Ok behind → behind ≡ number + 1
 next_number met number behind = step met (nat_eq number 4294967295)
   where
@@ -79,7 +79,7 @@ next_number met number behind = step met (nat_eq number 4294967295)
     step false true is = absurd (cc)
     step false false is = let here : suc number ≡ behind = cc in omega arith
 
--- The number behind some lines.
+-- The number after some lines.
 pub counted : (test : Site → Bool) (number behind : ℕ) (along : List Site) → walk test number along ≡ Ok behind → behind ≡ number + length along
 counted test number behind [] is = let here : number ≡ behind = cc in omega arith
 counted test number behind (site ∷ along) is = step (past (test site) number) refl (λ n rest. counted test n behind along rest) is

@@ -127,7 +127,7 @@ instance_block instance = map alone (map form.Setting instance.settings) ++ (alo
 abbrev pub instance_head : Instance → Headed
 instance_head instance = record { head = form.Instance instance.name instance.unit; block = sites (InstanceScope instance) [] (instance_block instance) }
 
--- As `NameLaws` has it, but with the `end` of a block as a piece of its own.
+-- The same as in `NameLaws`, but with the `end` of a block as a piece of its own.
 instance_heads : (instances : List Instance) → flat_map headed_part (map parts.HasInstance instances) ≡ map instance_head instances
 instance_heads [] = refl
 instance_heads (instance ∷ instances) =

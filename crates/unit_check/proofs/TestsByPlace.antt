@@ -38,7 +38,7 @@ module _ (system : System) where
   all_held : AllByRecursion Held (sites_of system)
   all_held = all_cut [] (sites_of system) refl
 
-  -- What lines outside of units keep is nothing.
+  -- Nothing is known of lines outside units.
   outside : (earlier : List LineForm) (headed : List Headed) → Inside (InUnit system) headed → AllByRecursion (InUnit system) (sites TopScope earlier headed)
   outside earlier [] inside = _
   outside earlier (first ∷ others) inside = (

@@ -1,4 +1,4 @@
--- The walk by the parts of a system is the walk along its canonical lines.
+-- The walk over the parts of a system is the walk over its canonical lines.
 use Rattle.std.proofs.Common.{◌≡◌, ℕ, suc, ◌+◌, List, [], ◌∷◌, ◌++◌, map, length, Option, Some, None, refl, ap, sym, ◌∙◌, arith}
 use Rattle.std.specs.List.{flat_map, filter_map, cons_option}
 use Rattle.std.proofs.lemmas.List.{append-nil, length-append, map-append}
@@ -20,9 +20,9 @@ use Rattle.unit_tree.specs.declared.unit.Unit.{Unit}
 use Rattle.unit_check.proofs.SystemLines.{plain_names, port_lines, step_heads, block, unit_head, instance_block, instance_head, header, units, instances, wires}
 use Rattle.unit_check.proofs.SystemLines.{limits, samples, whole, sites_are}
 
--- ---- How many lines are asked
+-- ---- How many lines have an item
 
--- How many lines tell what is asked.
+-- How many lines have an item.
 abbrev pub told : {A : Type 0} → (LineForm → Option A) → List LineForm → ℕ
 told asked lines = length (filter_map asked lines)
 
@@ -53,7 +53,7 @@ untold_behind : {A : Type 0} (asked : LineForm → Option A) (earlier : List Lin
 untold_behind asked earlier headed one other = let all = told_adds asked earlier (heads headed) in omega arith
 
 module _ (test : Test) where
-  -- A walk goes along these lines and their blocks.
+  -- A walk goes over these lines and their blocks.
   abbrev Along : Scope → List LineForm → Walk → List Headed → Type 0
   Along scope earlier walked headed = (number : ℕ) → walked number ≡ walk (test_at test) number (sites scope earlier headed)
 
@@ -201,7 +201,7 @@ module _ (test : Test) where
   -- ---- A system
 
   module _ (system : System) where
-    -- What is not told by the lines of (units system) and (instances system).
+    -- Items that the lines of (units system) and (instances system) don't have.
     untold_parts : {A : Type 0} (asked : LineForm → Option A) → ((name : List ℕ) → asked (form.Unit name) ≡ None)
         → ((name unit : List ℕ) → asked (form.Instance name unit) ≡ None) → Untold asked ((units system) ++ (instances system))
     untold_parts asked no_unit no_instance =

@@ -1,4 +1,4 @@
--- Rule 16: how many of a kind there may be, by the place of a line alone.
+-- Rule 16: how many of a kind there may be, tested by the place of a line alone.
 use Rattle.std.specs.Prelude.{ℕ, ◌+◌, ◌-◌, ◌*◌, nat_lt, nat_le, Bool, false, length, take, Option, Some, None}
 use Rattle.std.specs.List.{flat_map}
 use Rattle.model_rules.specs.Limits.{connection_limit, input_limit, instance_limit, local_limit, output_limit, param_limit, sample_limit, state_limit, unit_limit}
@@ -9,17 +9,17 @@ use Rattle.unit_tree.specs.declared.line_form.LineForm.TheVariants as form
 use Rattle.unit_tree.specs.declared.system.System.{System}
 use Rattle.unit_tree.specs.declared.unit.Unit.{Unit}
 
--- How many connections of the plain form the first connections of a system become.
+-- How many connections of the plain form the first `count` connections of a system become.
 abbrev pub plain_wire_count : System → ℕ → ℕ
 plain_wire_count system count = length (flat_map (plain_wires system) (take count system.wires))
 
--- A place is the first of some or lies behind it.
+-- A place is at or after the first place, if there is one.
 abbrev pub is_from : ℕ → Option ℕ → Bool
 is_from place None = false
 is_from place (Some first) = nat_le first place
 
--- Too many in a unit, by the place of a line among those that declare names: these are in the order of the lists, and an
--- event port counts as two.
+-- There are too many in a unit up to the line, by its place among the lines that declare names. These are in the order
+-- of the unit's lists, and an event port counts as two.
 abbrev pub exceeds_in_unit : Unit → ℕ → LineForm → Bool
 exceeds_in_unit unit place (form.Param param) = nat_lt param_limit (place + 1)
 exceeds_in_unit unit place (form.State state) = nat_lt state_limit (place - length unit.params + 1)
@@ -35,7 +35,7 @@ exceeds_in_unit unit place (form.EventOutput event) =
     + 2 * (place - length unit.params - length unit.states - length unit.locals - length unit.inputs - length unit.events_in - length unit.outputs + 1))
 exceeds_in_unit unit place line = false
 
--- Too many outside of blocks.
+-- There are too many outside blocks up to the line.
 abbrev pub exceeds_on_top : System → ℕ → LineForm → Bool
 exceeds_on_top system place (form.Unit name) = nat_lt unit_limit (place + 1)
 exceeds_on_top system place (form.Instance name unit) = nat_lt instance_limit (place + 1)

@@ -1,4 +1,4 @@
--- The rules on depth and cost, by the lines of the source.
+-- The rules on depth and cost, for the lines of the source.
 use Rattle.std.specs.Prelude.{Bool, false, not, ◌||◌, nat_le, nat_lt, Option, Some, None}
 use Rattle.model_rules.specs.Limits.{cost_limit, depth_limit}
 use Rattle.unit_tree.specs.Costs.{expression_call_cost}
@@ -18,7 +18,8 @@ abbrev pub is_given_deeper : Option Expr → Bool
 is_given_deeper None = false
 is_given_deeper (Some value) = is_deeper value
 
--- Rule 17: an expression is too deep. An event output is judged by both outputs that it becomes.
+-- Rule 17: an expression is too deep. An event output is judged by both plain outputs that it
+-- becomes.
 abbrev pub is_deep_at : Scope → LineForm → Bool
 is_deep_at (UnitScope unit) (form.EventOutput event) = is_deeper (presence_of event.value) || is_deeper (word_expression_of event.ty event.value)
 is_deep_at scope line = is_given_deeper (expression_on line)

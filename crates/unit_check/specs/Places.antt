@@ -1,5 +1,5 @@
--- The rules that ask for earlier lines, by the place of a line alone: a thing is said again where the first place at which
--- it is said lies before the line's own.
+-- The rules that compare a line with earlier ones, tested by the place of a line alone: an item is repeated where its
+-- first place is before the line's own place.
 use Rattle.std.specs.Prelude.{ℕ, nat_lt, Bool, false, List, map, Option, Some, None}
 use Rattle.std.specs.List.{position_from}
 use Rattle.unit_names.specs.Found.{first_place, declared_names}
@@ -12,16 +12,16 @@ use Rattle.unit_tree.specs.declared.system.PortName.{PortName}
 use Rattle.unit_tree.specs.declared.system.System.{System}
 use Rattle.unit_tree.specs.declared.unit.Unit.{Unit}
 
--- A first place lies before another place.
+-- There is a first place, and it is before another place.
 abbrev pub is_before : ℕ → Option ℕ → Bool
 is_before place None = false
 is_before place (Some first) = nat_lt first place
 
--- The first place of a port among some.
+-- The first place of a port in a list.
 abbrev pub first_port : List PortName → PortName → Option ℕ
 first_port ports port = position_from (same_port port) 0 ports
 
--- A name that a line of a unit declares was declared before.
+-- The name that a line of a unit declares was declared before.
 abbrev pub declares_again : Unit → ℕ → Option (List ℕ) → Bool
 declares_again unit place None = false
 declares_again unit place (Some name) = is_before place (first_place (declared_names unit) name)

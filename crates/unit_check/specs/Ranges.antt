@@ -1,4 +1,5 @@
--- Literals and times, read where their decimals are at most nine. In a system in range they always are.
+-- Literals and times, computed only where their decimals are at most nine. In a system in range they
+-- always are.
 use Rattle.std.specs.Prelude.{ℕ, Bool, true, false, not, ◌&&◌, nat_le, ℤ, pos, List, Option, Some, None, Result, Ok, if◌then◌else◌}
 use Rattle.std.specs.Option.{option_map, option_and_then}
 use Rattle.fixed_words.specs.Literals.{word_of_literal}
@@ -40,7 +41,8 @@ literal_read system scope (form.Input input) = Some (word_read input.ty input.st
 literal_read system (InstanceScope instance) (form.Setting setting) = option_map (λ ty. word_read ty setting.value) (setting_type system instance setting.name)
 literal_read system scope _ = None
 
--- Rule 10: a kind is wrong, version 1 speaks of events, or a literal has the wrong form.
+-- Rule 10: a kind is wrong, `absent` or `present` is used in version 1, or a literal has the wrong
+-- form.
 abbrev pub is_of_wrong_kind_at : System → Scope → LineForm → Bool
 is_of_wrong_kind_at system scope line =
     mistakes_kind scope line || (((system.version == 1) && tail_speaks_of_events (tail_of line)) || on_literal is_misformed (literal_read system scope line))
@@ -55,11 +57,11 @@ abbrev pub has_few_places : Literal → Bool
 has_few_places (literal.Truth told) = true
 has_few_places (literal.Number number decimals) = nat_le decimals decimals_limit
 
--- Seconds that are a whole number of ticks of a resolution, at least so many and at most 10^15.
+-- Seconds that are a whole number of ticks of a resolution, at least `least` and at most 10^15.
 abbrev pub is_length_read : ℕ → ℕ → Literal → Bool
 is_length_read least resolution seconds = (nat_le resolution decimals_limit && has_few_places seconds) && is_length least (seconds_of resolution seconds)
 
--- Rule 20: `stop` or `longest` is no whole number of ticks, or not in its range.
+-- Rule 20: `stop` or `longest` is not a whole number of ticks, or not in its range.
 abbrev pub mistimes_at : System → LineForm → Bool
 mistimes_at system (form.Stop seconds) = not (is_length_read 0 (resolution_of system) seconds)
 mistimes_at system (form.Longest seconds) = not (is_length_read 1 (resolution_of system) seconds)

@@ -44,7 +44,7 @@ rule_of by.NothingRepeats = rules.NothingRepeats
 abbrev pub number_of : SystemRule → ℕ
 number_of some = numbers.number_of (rule_of some)
 
--- The test of a line that breaks the rule, as `WellFormed` has it under the number of the rule.
+-- The test of a line that breaks the rule, as `WellFormed` has it for the number of the rule.
 unfoldable pub breaks_of : SystemRule → System → Site → Bool
 breaks_of by.NamesDiffer = redeclares
 breaks_of by.NamesAreDeclared = λ system site. misnames system site.scope site.line
@@ -63,7 +63,7 @@ breaks_of by.TargetsMayChange = λ system site. assigns_read_only site.scope sit
 breaks_of by.InstanceIsThere = λ system site. lacks_instance system site.line
 breaks_of by.NothingRepeats = repeats_itself
 
--- The rule as the definitions have it.
+-- The rule, as `WellFormed` defines it.
 abbrev pub defined : SystemRule → well_formed.Rule
 defined some = rule (number_of some) (breaks_of some)
 
@@ -98,15 +98,16 @@ all_rules =
 abbrev pub judged : List well_formed.Rule
 judged = map defined all_rules
 
--- ---- What the code answers
+-- ---- The results of the code
 
--- What a walk says of the lines that break a rule: it comes to the end where there are none, and stops at the first.
+-- The result of a walk, by the lines that break a rule: it reaches the end where there are none, and stops at the
+-- first of them.
 abbrev pub Says : Result ℕ Stop → List ℕ → Type 0
 Says (Ok behind) lines = lines ≡ []
 Says (Err (stop.At line)) lines = (others : List ℕ) × (lines ≡ line ∷ others)
 Says (Err stop.Full) lines = ⊤
 
--- A fault is the refusal; want of memory may always come.
+-- A fault is the refusal, or there is no memory.
 abbrev pub Tells : CheckFault → Option Refusal → Type 0
 Tells (fault.Line item number) refusal = refusal ≡ Some (record { by = number; at = item })
 Tells fault.NoMemory refusal = ⊤
@@ -115,7 +116,7 @@ Tells fault.NoMemory refusal = ⊤
 abbrev pub IsFaultOf : System → CheckFault → Type 0
 IsFaultOf system why = Tells why (refusal_of system)
 
--- A fault by one rule alone.
+-- A fault by one rule alone, by the lines that break it.
 abbrev pub TellsRule : ℕ → List ℕ → CheckFault → Type 0
 TellsRule number lines (fault.Line item by) = (by ≡ number) × ((others : List ℕ) × (lines ≡ item ∷ others))
 TellsRule number lines fault.NoMemory = ⊤

@@ -1,4 +1,4 @@
--- A walk along the canonical lines of a system by its parts, up to the first line that passes a test.
+-- A walk over the canonical lines of a system, part by part, up to the first line that passes a test.
 use Rattle.std.specs.Prelude.{ℕ, suc, ◌-◌, Bool, nat_eq, List, [], ◌∷◌, map, length, Option, Some, None, Result, Ok, Err, if◌then◌else◌}
 use Rattle.std.specs.List.{filter_map}
 use Rattle.unit_check.specs.declared.walk.ScopeRef.{ScopeRef}
@@ -17,10 +17,10 @@ use Rattle.unit_tree.specs.declared.system.Instance.{Instance}
 use Rattle.unit_tree.specs.declared.system.System.{System}
 use Rattle.unit_tree.specs.declared.unit.Unit.{Unit}
 
--- ---- What is asked of a line
+-- ---- The test of a line
 
--- The place of a line: how many lines came before it in its scope that say a thing of the same sort. In a step all lines are
--- of one sort, and in a unit all that declare a name.
+-- The place of a line: how many lines of the same sort came before it in its scope. In a step all lines are of one
+-- sort, and in a unit all lines that declare a name are.
 abbrev pub place_of : Scope → List LineForm → LineForm → ℕ
 place_of (StepScope unit) earlier line = length earlier
 place_of scope earlier (form.Unit name) = length (filter_map unit_declared earlier)
@@ -37,7 +37,7 @@ place_of scope earlier (form.Setting setting) = length (filter_map param_set ear
 place_of scope earlier (form.Sample port) = length (filter_map port_sampled earlier)
 place_of scope earlier _ = 0
 
--- A test of lines: by the scope of a line, its place, and what it says.
+-- A test of lines: by the scope of a line, its place, and the line itself.
 abbrev pub Test : Type 0
 Test = Scope → ℕ → LineForm → Bool
 
@@ -46,11 +46,11 @@ test_at test site = test site.scope (place_of site.scope site.earlier site.line)
 
 -- ---- Walks
 
--- A walk along some lines: from the number of the first one to the number behind the last one, or to why it stops.
+-- A walk over some lines: from the number of the first one to the number after the last one, or to why it stops.
 abbrev pub Walk : Type 0
 Walk = ℕ → Result ℕ Stop
 
--- What follows where nothing was met.
+-- One walk after another, if the first one didn't stop.
 abbrev pub onward : Result ℕ Stop → Walk → Result ℕ Stop
 onward (Ok behind) next = next behind
 onward (Err why) next = Err why
@@ -59,11 +59,11 @@ infixl 10 ◌>=>◌
 abbrev pub ◌>=>◌ : Walk → Walk → Walk
 (first >=> next) number = onward (first number) next
 
--- Past one line, unless it passes the test. Numbers are those of 32 bits.
+-- The walk over one line: it stops there if the line passes the test. Numbers have 32 bits.
 abbrev pub past : Bool → Walk
 past met number = if met then Err (stop.At number) else (if nat_eq number 4294967295 then Err stop.Full else Ok (suc number))
 
--- Past a line whose place is counted from the number of a first one.
+-- The walk over a line whose place is counted from the number of a first one.
 abbrev pub past_from : (ℕ → LineForm → Bool) → ℕ → LineForm → Walk
 past_from test first line number = past (test (number - first) line) number
 
@@ -94,7 +94,7 @@ node_walk past_line (Line-F.Accept value) number = past_line (form.Accept value)
 abbrev pub line_walk : (LineForm → Walk) → Line → Walk
 line_walk past_line = fold-Line Walk (node_walk past_line)
 
--- Along a step, with its own `step` and `end`.
+-- The walk over a step, with its own `step` and `end`.
 abbrev pub step_walk : Test → Unit → List Line → Walk
 step_walk test unit lines =
     past (test (UnitScope unit) 0 form.Step)
@@ -103,7 +103,7 @@ step_walk test unit lines =
 
 -- ---- Units
 
--- Along the lines that declare names, the first of which has this number.
+-- The walk over the lines that declare names, from the number of the first one.
 abbrev pub plain_names_walk : (LineForm → Walk) → Unit → Walk
 plain_names_walk past_line unit =
     each (λ param. past_line (form.Param param)) unit.params
@@ -120,14 +120,14 @@ ports_walk past_line unit =
 abbrev pub names_walk : (LineForm → Walk) → Unit → Walk
 names_walk past_line unit = plain_names_walk past_line unit >=> ports_walk past_line unit
 
--- Along what a unit does, and its `end`.
+-- The walk over `max` and the step of a unit, and its `end`.
 abbrev pub behaviour_walk : Test → Unit → Walk
 behaviour_walk test unit =
     if_given (λ value. past (test (UnitScope unit) 0 (form.Max value))) unit.max
     >=> if_given (step_walk test unit) unit.step
     >=> past (test (UnitScope unit) 0 form.End)
 
--- Along the block of a unit.
+-- The walk over the block of a unit.
 abbrev pub unit_walk : Test → Unit → Walk
 unit_walk test unit =
     if_given (λ decimals. past (test (UnitScope unit) 0 (form.Resolution decimals))) unit.resolution
@@ -136,18 +136,18 @@ unit_walk test unit =
 
 -- ---- Systems
 
--- Along units, the first of which has this place.
+-- The walk over units, from the place of the first one.
 abbrev pub units_walk : Test → ℕ → List Unit → Walk
 units_walk test place [] number = Ok number
 units_walk test place (unit ∷ units) number =
     (past (test TopScope place (form.Unit unit.name)) >=> unit_walk test unit >=> units_walk test (suc place) units) number
 
--- Along the unit of a place, where there is one.
+-- The walk over the unit at a place, if there is one.
 abbrev pub numbered_walk : Test → ℕ → Option Unit → Walk
 numbered_walk test place None number = Ok number
 numbered_walk test place (Some unit) number = (past (test TopScope place (form.Unit unit.name)) >=> unit_walk test unit) number
 
--- Along the block of an instance.
+-- The walk over the block of an instance.
 abbrev pub instance_walk : Test → Instance → Walk
 instance_walk test instance =
     (λ first. each (λ setting. past_from (test (InstanceScope instance)) first (form.Setting setting)) instance.settings first)
@@ -159,7 +159,7 @@ instances_walk test place (instance ∷ instances) number =
     (past (test TopScope place (form.Instance instance.name instance.unit)) >=> instance_walk test instance >=> instances_walk test
     (suc place) instances) number
 
--- Along the lines that say how a system is run.
+-- The walk over the lines that set the limits of a run.
 abbrev pub limits_walk : (LineForm → Bool) → System → Walk
 limits_walk test system =
     if_given (λ seconds. past (test (form.Stop seconds))) system.stop
@@ -180,7 +180,7 @@ system_walk test system =
     >=> limits_walk (test TopScope 0) system
     >=> (λ first. each (λ port. past_from (test TopScope) first (form.Sample port)) system.samples first)
 
--- ---- What the code shows of a line
+-- ---- The meaning of a line's references in the code
 
 abbrev pub scope_of : ScopeRef → Scope
 scope_of shown.Top = TopScope

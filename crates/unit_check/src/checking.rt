@@ -1,4 +1,4 @@
-//! The rules, one after the other.
+//! The rules, judged in turn.
 ghost use Rattle.std.specs.Prelude.{◌≡◌, [], map, IfOk, OnOk, IfErr, None};
 ghost use Rattle.unit_check.specs.Rules.{TellsRule, Tells, IsFaultOf, defined, judged, number_of};
 ghost use Rattle.unit_tree.specs.Printable.{IsRanged};
@@ -19,7 +19,7 @@ pub enum CheckFault {
     /// The canonical line `item`, counted from 1, is the first that breaks the rule, and no line breaks an earlier one.
     #[error("line {item} breaks rule {rule}")]
     Line { item: u32, rule: u8 },
-    /// There was not enough memory, or there are more lines than numbers.
+    /// There was not enough memory, or there are more lines than 32 bits count.
     #[error("no memory")]
     NoMemory,
 }
@@ -91,10 +91,10 @@ fn judge_tables(tables: &SystemTables<'_>) -> Result<(), CheckFault>
     )
 }
 
-/// Whether a system in range is well-formed, in either version of the language.
+/// Judges whether a system in range is well-formed, in either version of the language.
 ///
-/// A system that isn't is refused by the least rule that it breaks, at the first canonical line that breaks it. The rules
-/// are those from 8 on, but for that of cycles.
+/// A system that isn't is refused by the least rule that it breaks, at the first canonical line that breaks it. The
+/// rules are those from 8 on, except the rule of cycles, 15.
 #[tactic(auto, using(crate::proofs::RulesInTurn::kept, crate::proofs::RulesInTurn::refused))]
 pub fn judge(alloc: Global, system: &System) -> Result<(), CheckFault>
     requires ranged { IsRanged system.now }
@@ -107,9 +107,9 @@ pub fn judge(alloc: Global, system: &System) -> Result<(), CheckFault>
     }
 }
 
-/// A system in range, judged, with its plain form at hand.
+/// Judges a system in range, and returns it with its plain form.
 ///
-/// A system that isn't well-formed is refused as [`judge`] refuses it.
+/// A system that isn't well-formed is refused as by [`judge`].
 pub fn check(alloc: Global, system: System) -> Result<Checked, CheckFault>
     requires ranged { IsRanged system }
     ensures ok { IfOk result (λ checked. checked ≡ system) }

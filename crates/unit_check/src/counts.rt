@@ -11,7 +11,7 @@ use model_rules::{
 };
 use unit_tree::Unit;
 
-/// The place among the inputs and what comes behind them.
+/// The place among inputs and outputs, from the place among all declarations of a unit.
 fn behind_locals(unit: &Unit, place: usize) -> usize
     ensures { result ≡ place - length unit.now.params - length unit.now.states - length unit.now.locals }
 {
@@ -21,7 +21,7 @@ fn behind_locals(unit: &Unit, place: usize) -> usize
         .saturating_sub(unit.locals.len())
 }
 
-/// The place among the outputs and what comes behind them.
+/// The place among outputs, from the place among all declarations of a unit.
 fn behind_inputs(unit: &Unit, place: usize) -> usize
     ensures { result
         ≡ place - length unit.now.params - length unit.now.states - length unit.now.locals - length unit.now.inputs - length unit.now.events_in }
@@ -31,7 +31,8 @@ fn behind_inputs(unit: &Unit, place: usize) -> usize
         .saturating_sub(unit.events_in.len())
 }
 
-/// Whether so many plain ports, and event ports up to a place, are more than the limit.
+/// Whether this many plain ports, and event ports up to a place, are together more than the limit. An event port counts
+/// as two.
 fn are_too_many_ports(limit: usize, plain: usize, place: usize) -> bool
     ensures { result ≡ nat_lt limit (plain + 2 * (place + 1)) }
 {
@@ -67,7 +68,7 @@ fn exceeds_in_unit(unit: &Unit, place: usize, line: FormRef<'_>) -> bool
     }
 }
 
-/// Rule 16, outside of blocks: whether there are too many units, instances, connections or samples, up to the line.
+/// Rule 16, outside blocks: whether there are too many units, instances, connections or samples, up to the line.
 fn exceeds_on_top(tables: &SystemTables<'_>, place: usize, line: FormRef<'_>) -> bool
     ensures { result ≡ exceeds_on_top tables.now place (form_of line.entry) }
 {

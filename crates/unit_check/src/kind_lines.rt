@@ -50,7 +50,7 @@ fn mistakes_kind(scope: ScopeRef<'_, '_>, line: FormRef<'_>) -> bool
     }
 }
 
-/// Whether `absent` or `present` stands on a line.
+/// Whether `absent` or `present` occurs on a line.
 fn line_speaks_of_events(line: FormRef<'_>) -> bool
     ensures { result ≡ tail_speaks_of_events (tail_of (form_of line.entry)) }
 {
@@ -106,7 +106,7 @@ fn setting_type(names: &SystemNames<'_>, instance: &Instance, setting: &Setting)
     names.unit_of(instance)?.param_type(setting.name.as_slice())
 }
 
-/// What is read of a literal in an instance.
+/// The word of a literal in an instance, or why it has none.
 fn setting_read(
     names: &SystemNames<'_>,
     scope: ScopeRef<'_, '_>,
@@ -123,7 +123,7 @@ fn setting_read(
     }
 }
 
-/// What is read of the literal on a line.
+/// The word of the literal on a line, or why it has none.
 fn literal_read(
     names: &SystemNames<'_>,
     scope: ScopeRef<'_, '_>,
@@ -149,7 +149,8 @@ fn is_misformed_literal(read: Option<Result<i64, LiteralFault>>) -> bool
     }
 }
 
-/// Rule 10: whether a kind is wrong, or a literal has none of its type's forms.
+/// Rule 10: whether a kind is wrong, `absent` or `present` is used in version 1, or a literal has the
+/// wrong form for its type.
 pub(crate) fn is_of_wrong_kind(
     names: &SystemNames<'_>,
     scope: ScopeRef<'_, '_>,

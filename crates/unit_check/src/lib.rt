@@ -1,11 +1,11 @@
-//! Whether a system is well-formed, or which rule it breaks, and at which line.
+//! Judges whether a system is well-formed, or which rule it breaks, and at which line.
 //!
-//! The layers above use [`check`], or [`judge`] where a system is only looked at, and [`line_of_output`] for the line at which the
-//! rule of cycles names an output. The rules are defined in `unit_tree`, in its `WellFormed` and `Orders`; how they are judged
-//! along a walk stands in `specs/Walks.antt` (the walk by the parts of a system), `specs/Rules.antt` (the tests) and
-//! `specs/Questions.antt` (what a walk asks).
+//! The layers above use [`check`], or [`judge`] where a system is only read. They use [`line_of_output`] for the line
+//! at which the rule of cycles names an output. The rules are defined in `WellFormed` and `Orders` of `unit_tree`. How
+//! they are judged by a walk is defined in `specs/Walks.antt` (the walk over the parts of a system), `specs/Rules.antt`
+//! (the tests) and `specs/Questions.antt` (the test that a walk makes).
 //!
-//! A system in range comes of a text, so the tests of these calls stand above the reader, in `text_accept`.
+//! A system in range comes from a text, so the tests of these calls are above the reader, in `text_accept`.
 #![tactic(auto)]
 
 mod checking;

@@ -30,7 +30,7 @@ fn expression_on<'a>(line: FormRef<'a>) -> Option<&'a Expr>
     }
 }
 
-/// Whether an output that an event output becomes is too deep.
+/// Whether one of the plain outputs that an event output becomes is too deep.
 fn is_deep_event(event: &EventOut) -> bool
     ensures { result ≡ (is_deeper (presence_of event.now.value) || is_deeper (word_expression_of event.now.ty event.now.value)) }
 {
@@ -66,7 +66,7 @@ fn is_dear(value: &Expr) -> bool
     cost(value) + 1 > GREATEST_COST
 }
 
-/// Whether a call of an output that an event output becomes costs too much.
+/// Whether a call of one of the plain outputs that an event output becomes costs too much.
 #[tactic(auto, using(crate::proofs::PlainMeasures::dearer_is))]
 fn is_dear_event(event: &EventOut) -> bool
     ensures { result ≡ (is_dearer (presence_of event.now.value) || is_dearer (word_expression_of event.now.ty event.now.value)) }

@@ -12,7 +12,7 @@ use crate::walk::{FormRef, ScopeRef};
 use unit_names::{Asker, SystemNames, UnitNames};
 use unit_tree::{Expr, Instance, Name, PortName, Setting, Wire};
 
-/// Whether a first place lies before another place.
+/// Whether there is a first place, and it is before another place.
 pub(crate) fn is_before(place: usize, first: Option<usize>) -> bool
     ensures { result ≡ is_before place first }
 {
@@ -22,7 +22,7 @@ pub(crate) fn is_before(place: usize, first: Option<usize>) -> bool
     }
 }
 
-/// Rule 8, outside of blocks.
+/// Rule 8, outside blocks.
 fn redeclares_on_top(names: &SystemNames<'_>, place: usize, line: FormRef<'_>) -> bool
     ensures { result ≡ redeclares_at names.now TopScope place (form_of line.entry) }
 {
@@ -74,7 +74,7 @@ pub(crate) fn redeclares(
     }
 }
 
-/// Whether an output names what it may not use, or a need that is no input.
+/// Whether an output uses a name that it may not use, or a need is not an input.
 fn misuses(unit: &UnitNames<'_>, needs: &[Name], value: &Expr) -> bool
     ensures { result ≡ misuses unit.now needs.now value.now }
 {
@@ -134,7 +134,7 @@ fn misconnects(names: &SystemNames<'_>, wire: &Wire) -> bool
     is_no_output(names, &wire.from) || is_no_input(names, &wire.to)
 }
 
-/// Whether a port is no output.
+/// Whether a port is not an output.
 #[tactic(auto, using(crate::proofs::FoundPorts::no_output))]
 fn is_no_output(names: &SystemNames<'_>, port: &PortName) -> bool
     ensures { result ≡ is_none (output_at names.now port.now) }
@@ -142,7 +142,7 @@ fn is_no_output(names: &SystemNames<'_>, port: &PortName) -> bool
     names.output_at(port).is_none()
 }
 
-/// Whether a port is no input.
+/// Whether a port is not an input.
 #[tactic(auto, using(crate::proofs::FoundPorts::no_input))]
 fn is_no_input(names: &SystemNames<'_>, port: &PortName) -> bool
     ensures { result ≡ is_none (input_at names.now port.now) }
@@ -150,7 +150,7 @@ fn is_no_input(names: &SystemNames<'_>, port: &PortName) -> bool
     names.input_at(port).is_none()
 }
 
-/// Rule 9, outside of blocks.
+/// Rule 9, outside blocks.
 fn misnames_on_top(names: &SystemNames<'_>, line: FormRef<'_>) -> bool
     ensures { result ≡ misnames names.now TopScope (form_of line.entry) }
 {
@@ -162,7 +162,7 @@ fn misnames_on_top(names: &SystemNames<'_>, line: FormRef<'_>) -> bool
     }
 }
 
-/// Rule 9: whether a name isn't there, or may not be used.
+/// Rule 9: whether a name is not declared, or may not be used there.
 pub(crate) fn misnames(names: &SystemNames<'_>, scope: ScopeRef<'_, '_>, line: FormRef<'_>) -> bool
     ensures { result ≡ misnames names.now (scope_of scope.entry) (form_of line.entry) }
 {
@@ -174,7 +174,7 @@ pub(crate) fn misnames(names: &SystemNames<'_>, scope: ScopeRef<'_, '_>, line: F
     }
 }
 
-/// Rule 12: whether an output uses an input that is none of its needs.
+/// Rule 12: whether an output uses an input that is not in its needs.
 pub(crate) fn hides_need(scope: ScopeRef<'_, '_>, line: FormRef<'_>) -> bool
     ensures { result ≡ hides_need (scope_of scope.entry) (form_of line.entry) }
 {
@@ -189,7 +189,7 @@ pub(crate) fn hides_need(scope: ScopeRef<'_, '_>, line: FormRef<'_>) -> bool
     }
 }
 
-/// Rule 22: whether what can't change is assigned.
+/// Rule 22: whether a parameter, an input or an output is assigned.
 pub(crate) fn assigns_read_only(scope: ScopeRef<'_, '_>, line: FormRef<'_>) -> bool
     ensures { result ≡ assigns_read_only (scope_of scope.entry) (form_of line.entry) }
 {

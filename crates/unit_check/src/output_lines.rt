@@ -1,4 +1,4 @@
-//! The line of an output.
+//! The canonical line of an output.
 ghost use Rattle.std.specs.Prelude.{◌≡◌, IfOk};
 ghost use Rattle.std.specs.Option.{option_and_then, option_copied};
 ghost use Rattle.unit_tree.specs.Names.{instance_named, unit_of_instance};
@@ -20,8 +20,8 @@ fn unit_of<'a>(tables: &'a SystemTables<'_>, instance: &[u8]) -> Option<&'a Unit
     Some(unit.unit())
 }
 
-/// The canonical line, counted from 1, that declares the output of a name in the unit of an instance, in the system of the tables;
-/// none where no line does.
+/// The canonical line, counted from 1, that declares the output of a name in the unit of an instance, in the system of
+/// the tables. None where no line does.
 fn declaring_line(
     tables: &SystemTables<'_>,
     instance: &[u8],
@@ -39,10 +39,10 @@ fn declaring_line(
     }
 }
 
-/// The canonical line, counted from 1, that declares the output of a name in the unit of an instance; none where no line
-/// does. Both are told by their names.
+/// The canonical line, counted from 1, that declares an output in the unit of an instance. Both are given by their
+/// names. None where no line does.
 ///
-/// Where a system has more lines than 32 bits count, that is told as want of memory.
+/// Where a system has more lines than 32 bits count, the error is `NoMemory`.
 pub fn line_of_output(
     alloc: Global,
     system: &System,

@@ -17,8 +17,8 @@ use unit_tree::{PortName, Wire};
 /// Places of ports, by the names of the instance and of the port.
 pub(crate) type PortPlaces<'a> = IndexMap<(&'a [u8], &'a [u8]), usize, RandomState>;
 
-/// The number from which the keys come by which ports are hashed. It is that of all ports of the table, so that nobody can
-/// choose ports whose hashes collide: another port is another number.
+/// A number from which the keys of a table's hash function are made. It is a hash of all ports of the table, so any
+/// other port changes the keys. This makes it hard to choose ports whose hashes collide.
 #[derive(Clone, Copy)]
 struct Fingerprint(u64);
 
@@ -32,7 +32,7 @@ impl RandomSource for Fingerprint {
     }
 }
 
-/// Adds a port to what makes the number.
+/// Adds a port to the hash that gives this number.
 fn add_port(hasher: &mut DefaultHasher, port: &PortName) {
     port.instance.as_slice().hash(hasher);
     port.port.as_slice().hash(hasher);
@@ -54,7 +54,7 @@ fn fingerprint_of_inputs(wires: &[Wire]) -> Fingerprint {
     Fingerprint(hasher.finish())
 }
 
-/// An empty table, whose hashes have the keys of a number.
+/// Returns an empty table, whose hash function has the keys of a number.
 fn keyed_table<'a>(alloc: Global, fingerprint: Fingerprint) -> Result<PortPlaces<'a>, NoMemory>
     ensures { IfOk result IsEmpty }
 {
@@ -72,7 +72,7 @@ pub(crate) fn find_port(places: &PortPlaces<'_>, port: &PortName) -> Option<usiz
     places.get(&key).copied()
 }
 
-/// Notes a port, where it was not noted before.
+/// Adds a port with its place, if it is not there already.
 fn note_port<'a>(
     places: &mut PortPlaces<'a>,
     port: &'a PortName,
@@ -87,7 +87,7 @@ fn note_port<'a>(
     Ok(())
 }
 
-/// Notes the ports that are sampled, in a table without any.
+/// Adds the sampled ports to an empty table.
 fn note_samples<'a>(
     empty: PortPlaces<'a>,
     samples: &'a [PortName],
@@ -102,7 +102,7 @@ fn note_samples<'a>(
     Ok(places)
 }
 
-/// Notes the inputs that are connected, in a table without any.
+/// Adds the connected inputs to an empty table.
 fn note_inputs<'a>(empty: PortPlaces<'a>, wires: &'a [Wire]) -> Result<PortPlaces<'a>, NoMemory>
     requires { IsEmpty empty }
     ensures { IfOk result (FindsPorts (map (λ wire. wire.to) wires.now)) }
@@ -114,7 +114,7 @@ fn note_inputs<'a>(empty: PortPlaces<'a>, wires: &'a [Wire]) -> Result<PortPlace
     Ok(places)
 }
 
-/// The places of the ports that are sampled.
+/// The places of the sampled ports.
 pub(crate) fn places_of_samples<'a>(
     alloc: Global,
     samples: &'a [PortName],
@@ -127,7 +127,7 @@ pub(crate) fn places_of_samples<'a>(
     )
 }
 
-/// The places of the inputs that are connected.
+/// The places of the connected inputs.
 pub(crate) fn places_of_connections<'a>(
     alloc: Global,
     wires: &'a [Wire],

@@ -1,4 +1,4 @@
-//! Rules on connections, samples and what is said twice.
+//! Rules on connections and samples, and on items that occur twice.
 ghost use Rattle.std.specs.Prelude.{◌≡◌, map};
 ghost use Rattle.unit_check.specs.Joins.{differ_found};
 ghost use Rattle.unit_check.specs.Places.{connects_again_at, repeats_at};
@@ -28,7 +28,7 @@ fn first_setting(settings: &[Setting], name: &Name) -> Option<usize>
     None
 }
 
-/// Rule 13: whether a connection leads to an input that is connected before.
+/// Rule 13: whether the input of a connection is connected before.
 pub(crate) fn connects_again(tables: &SystemTables<'_>, place: usize, line: FormRef<'_>) -> bool
     ensures { result ≡ connects_again_at tables.now place (form_of line.entry) }
 {
@@ -64,7 +64,7 @@ fn is_fixed_of(decimals: u8, other: Ty) -> bool
     }
 }
 
-/// Whether the types of two ports are not equal, or one alone is an event port.
+/// Whether the types of two ports are not equal, or only one is an event port.
 fn differ(one: Option<Declared>, other: Option<Declared>) -> bool
     ensures { result ≡ differ_found one other }
 {
@@ -84,7 +84,7 @@ fn joins_other_ports(names: &SystemNames<'_>, wire: &Wire) -> bool
     differ(names.output_at(&wire.from), names.input_at(&wire.to))
 }
 
-/// Rule 14: whether the ends of a connection have other types, or one alone is an event port.
+/// Rule 14: whether the ends of a connection have different types, or only one is an event port.
 pub(crate) fn joins_other_types(names: &SystemNames<'_>, line: FormRef<'_>) -> bool
     ensures { result ≡ joins_other_types names.now (form_of line.entry) }
 {
@@ -107,7 +107,7 @@ fn sets_again(scope: ScopeRef<'_, '_>, place: usize, setting: &Setting) -> bool
     }
 }
 
-/// Rule 24: whether a thing is set, sampled or needed twice.
+/// Rule 24: whether a parameter is set twice, a port sampled twice, or a need named twice.
 pub(crate) fn repeats(
     tables: &SystemTables<'_>,
     scope: ScopeRef<'_, '_>,

@@ -1,4 +1,4 @@
-//! What a walk asks of each line.
+//! The test that a walk makes of each line.
 ghost use Rattle.std.specs.Prelude.{◌≡◌, Some};
 ghost use Rattle.unit_tree.specs.Sites.{UnitScope};
 ghost use Rattle.unit_check.specs.Questions.{asked_of};
@@ -11,7 +11,7 @@ use crate::walk::{FormRef, ScopeRef};
 use unit_names::UnitNames;
 use unit_tree::Unit;
 
-/// A question to a line.
+/// A question that a walk asks of each line.
 #[derive(Clone, Copy)]
 pub(crate) enum Question<'q> {
     /// Whether it breaks the rule.
@@ -42,7 +42,7 @@ fn declares(unit: &Unit, output: &[u8], scope: ScopeRef<'_, '_>, line: FormRef<'
     }
 }
 
-/// The answer of a line.
+/// Whether a line passes the test of a question.
 pub(crate) fn answers(
     question: Question<'_>,
     tables: &SystemTables<'_>,

@@ -1,4 +1,4 @@
-//! The rules, and what each asks of a line.
+//! The rules, and the test of each.
 ghost use Rattle.std.specs.Prelude.{◌≡◌};
 ghost use Rattle.unit_check.specs.Rules.{test_of, number_of, rule_of};
 ghost use Rattle.unit_check.specs.Walks.{scope_of, form_of};
@@ -13,18 +13,19 @@ use crate::tables::SystemTables;
 use crate::walk::{FormRef, ScopeRef};
 use model_rules::Rule;
 
-/// A rule of a system. Each has the number under which a refusal names it; 15, on cycles, is judged by the order of outputs.
+/// A rule of a system. Each has the number by which a refusal names it. Rule 15, on cycles, is judged by the order of
+/// outputs.
 #[derive(Clone, Copy, Debug, PartialEq, Eq)]
 pub(crate) enum SystemRule {
     /// Rule 8: names of units, of instances, and in one unit differ.
     NamesDiffer,
-    /// Rule 9: names are declared, and may be used where they are.
+    /// Rule 9: names are declared, and may be used where they are used.
     NamesAreDeclared,
-    /// Rule 10: expressions have the kinds that are asked for, and literals the forms of their types.
+    /// Rule 10: expressions have the required kinds, and literals the forms of their types.
     KindsFit,
     /// Rule 11: literals are in the ranges of their types.
     LiteralsFit,
-    /// Rule 12: outputs use no inputs but their needs.
+    /// Rule 12: outputs use no inputs except those in their needs.
     NeedsAreNamed,
     /// Rule 13: an input is connected once.
     InputsConnectOnce,
@@ -40,9 +41,9 @@ pub(crate) enum SystemRule {
     StopIsThere,
     /// Rule 20: `stop` and `longest` are whole numbers of ticks.
     TimesAreTicks,
-    /// Rule 21: there are not too many rows for so many instances.
+    /// Rule 21: there are not too many rows for this many instances.
     RowsFit,
-    /// Rule 22: what is assigned may change.
+    /// Rule 22: only states and locals are assigned.
     TargetsMayChange,
     /// Rule 23: there is an instance.
     InstanceIsThere,

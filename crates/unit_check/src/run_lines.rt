@@ -1,4 +1,4 @@
-//! Rules on the lines that say how a system is run: 19 (`stop`), 20 (times), 21 (rows) and 23 (instances).
+//! Rules on the lines that set the limits of a run: 19 (`stop`), 20 (times), 21 (rows) and 23 (instances).
 ghost use Rattle.std.specs.Prelude.{◌≡◌, max};
 ghost use Rattle.std.specs.List.{fold};
 ghost use Rattle.unit_check.specs.Ranges.{is_length_read, has_few_places, mistimes_at};
@@ -13,7 +13,7 @@ use super_time::read_seconds;
 use unit_names::SystemNames;
 use unit_tree::Instance;
 
-/// Rule 19: whether there is no `stop`, told at the header.
+/// Rule 19: whether there is no `stop`. The header breaks this rule.
 pub(crate) fn lacks_stop(names: &SystemNames<'_>, line: FormRef<'_>) -> bool
     ensures { result ≡ lacks_stop names.now (form_of line.entry) }
 {
@@ -23,7 +23,7 @@ pub(crate) fn lacks_stop(names: &SystemNames<'_>, line: FormRef<'_>) -> bool
     }
 }
 
-/// Rule 23: whether there is no instance, told at the header.
+/// Rule 23: whether there is no instance. The header breaks this rule.
 pub(crate) fn lacks_instance(names: &SystemNames<'_>, line: FormRef<'_>) -> bool
     ensures { result ≡ lacks_instance names.now (form_of line.entry) }
 {
@@ -33,7 +33,7 @@ pub(crate) fn lacks_instance(names: &SystemNames<'_>, line: FormRef<'_>) -> bool
     }
 }
 
-/// Rule 21: whether there are too many rows for so many instances, told at the `rows` line.
+/// Rule 21: whether there are too many rows for this many instances. The `rows` line breaks this rule.
 pub(crate) fn has_too_many_rows(names: &SystemNames<'_>, line: FormRef<'_>) -> bool
     ensures { result ≡ has_too_many_rows names.now (form_of line.entry) }
 {
@@ -75,7 +75,7 @@ fn has_few_places(seconds: Literal) -> bool
     }
 }
 
-/// Whether seconds are a whole number of ticks, at least so many and not too many.
+/// Whether seconds are a whole number of ticks, at least `least` and at most 10^15.
 fn is_length(least: u64, resolution: u8, seconds: Literal) -> bool
     ensures { result ≡ is_length_read least resolution seconds }
 {
@@ -88,7 +88,7 @@ fn is_length(least: u64, resolution: u8, seconds: Literal) -> bool
     }
 }
 
-/// Rule 20: whether `stop` or `longest` is no whole number of ticks, or not in its range.
+/// Rule 20: whether `stop` or `longest` is not a whole number of ticks, or not in its range.
 pub(crate) fn mistimes(names: &SystemNames<'_>, line: FormRef<'_>) -> bool
     ensures { result ≡ mistimes_at names.now (form_of line.entry) }
 {

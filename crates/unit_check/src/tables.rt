@@ -1,4 +1,4 @@
-//! What the rules look up, made once for a system.
+//! Tables that the rules use, made once for a system.
 ghost use Rattle.std.specs.Prelude.{◌≡◌, ◌+◌, ◌≤◌, ℕ, nat_lt, length, map, IfOk};
 ghost use Rattle.unit_check.specs.Places.{first_port};
 ghost use Rattle.unit_check.specs.Counts.{plain_wire_count, is_from};
@@ -58,7 +58,7 @@ fn first_wire_too_many(names: &SystemNames<'_>) -> Option<usize>
     None
 }
 
-/// What is known of a system. Contracts see it as the system.
+/// A system with its tables. Contracts see it as the system.
 #[derive(Drop)]
 pub(crate) struct SystemTables<'a> {
     names: SystemNames<'a>,
@@ -89,11 +89,11 @@ impl<'a> Model for SystemTables<'a> {
 }
 
 impl<'a> SystemTables<'a> {
-    /// Of a system.
+    /// Makes the tables of a system.
     pub(crate) fn new(alloc: Global, system: &'a System) -> Result<SystemTables<'a>, NoMemory>
         ensures { IfOk result (λ tables. tables ≡ system.now) }
     {
-        // The names come last: a proof grows by what is dropped on a way out.
+        // The names come last, since the proof grows with what is dropped on an early return.
         let connected = places_of_connections(alloc, system.wires.as_slice())?;
         let sampled = places_of_samples(alloc, system.samples.as_slice())?;
         let names = SystemNames::new(alloc, system)?;

@@ -1,4 +1,4 @@
-//! A walk along the canonical lines of a system, up to the first line that answers a question.
+//! A walk over the canonical lines of a system, up to the first line that passes a test.
 ghost use Rattle.std.specs.Prelude.{◌≡◌, ◌-◌};
 ghost use Rattle.std.specs.List.{slice_get};
 ghost use Rattle.unit_tree.specs.declared.line_form.LineForm.TheVariants as form;
@@ -39,7 +39,7 @@ use unit_tree::{
     State, System, Wire,
 };
 
-/// What a line stands in.
+/// The scope of a line.
 #[derive(Clone, Copy)]
 pub(crate) enum ScopeRef<'s, 'n> {
     Top,
@@ -48,7 +48,7 @@ pub(crate) enum ScopeRef<'s, 'n> {
     Instance(&'s Instance),
 }
 
-/// What a line says.
+/// The content of a line, by reference.
 #[derive(Clone, Copy)]
 pub(crate) enum FormRef<'a> {
     Header(u8),
@@ -82,13 +82,14 @@ pub(crate) enum FormRef<'a> {
 /// Why a walk stopped.
 #[derive(Clone, Copy, Debug, PartialEq, Eq)]
 pub enum Stop {
-    /// At the line of this number, counted from 1, which breaks the rule, or is the one that was sought.
+    /// At the line with this number, counted from 1, which breaks the rule, or is the one that was
+    /// searched.
     At(u32),
-    /// There are more lines than numbers.
+    /// There are more lines than 32 bits count.
     Full,
 }
 
-/// What each line is asked, and what is known of the system.
+/// The question that a walk asks of each line, and the tables of the system.
 #[derive(Clone, Copy)]
 pub(crate) struct Walker<'w, 's> {
     question: Question<'w>,
@@ -103,7 +104,7 @@ impl Walker<'_, '_> {
         self.tables.names().system()
     }
 
-    /// The number behind a line, unless its answer is yes.
+    /// The number after a line, unless it passes the test.
     fn past(
         &self,
         scope: ScopeRef<'_, '_>,
@@ -122,7 +123,7 @@ impl Walker<'_, '_> {
         }
     }
 
-    /// The number behind a line whose place is counted from a first number.
+    /// The number after a line whose place is counted from a first number.
     fn past_from(
         &self,
         scope: ScopeRef<'_, '_>,
@@ -136,7 +137,7 @@ impl Walker<'_, '_> {
     }
 }
 
-/// The number behind a line of a step and its block.
+/// The number after a line of a step and its block.
 #[cycle(steps)]
 fn past_line(
     walker: &Walker<'_, '_>,
@@ -176,7 +177,7 @@ fn past_line(
     }
 }
 
-/// The number behind lines of a step and their blocks.
+/// The number after lines of a step and their blocks.
 #[cycle(steps)]
 fn past_lines(
     walker: &Walker<'_, '_>,
@@ -196,7 +197,7 @@ fn past_lines(
 
 ghost use Rattle.unit_tree.specs.Sites.{TopScope, UnitScope, StepScope, InstanceScope};
 
-/// The number behind a step, with its own `step` and `end`.
+/// The number after a step, with its own `step` and `end`.
 fn past_step(
     walker: &Walker<'_, '_>,
     unit: &UnitNames<'_>,
@@ -352,7 +353,7 @@ fn past_ports(
     past_events_out(walker, unit, first, number)
 }
 
-/// The number behind the lines of a unit that declare names.
+/// The number after the lines of a unit that declare names.
 fn past_names(walker: &Walker<'_, '_>, unit: &UnitNames<'_>, number: u32) -> Result<u32, Stop>
     ensures { result ≡ names_walk (past_from (asked_of walker.now.question walker.now.tables.now (UnitScope unit.now)) number) unit.now number }
 {
@@ -393,7 +394,7 @@ fn past_given_step(walker: &Walker<'_, '_>, unit: &UnitNames<'_>, number: u32) -
     }
 }
 
-/// The number behind what a unit does, and its `end`.
+/// The number after `max` and the step of a unit, and its `end`.
 fn past_behaviour(walker: &Walker<'_, '_>, unit: &UnitNames<'_>, number: u32) -> Result<u32, Stop>
     ensures { result ≡ behaviour_walk (asked_of walker.now.question walker.now.tables.now) unit.now number }
 {
@@ -402,7 +403,7 @@ fn past_behaviour(walker: &Walker<'_, '_>, unit: &UnitNames<'_>, number: u32) ->
     walker.past(ScopeRef::Unit(unit), 0, FormRef::End, number)
 }
 
-/// The number behind the block of a unit.
+/// The number after the block of a unit.
 fn past_unit(walker: &Walker<'_, '_>, unit: &UnitNames<'_>, number: u32) -> Result<u32, Stop>
     ensures { result ≡ unit_walk (asked_of walker.now.question walker.now.tables.now) unit.now number }
 {
@@ -411,7 +412,7 @@ fn past_unit(walker: &Walker<'_, '_>, unit: &UnitNames<'_>, number: u32) -> Resu
     past_behaviour(walker, unit, number)
 }
 
-/// The number behind the unit of a place and its block, where there is one.
+/// The number after the unit at a place and its block, if there is one.
 fn past_numbered(walker: &Walker<'_, '_>, place: usize, number: u32) -> Result<u32, Stop>
     ensures { result ≡ numbered_walk (asked_of walker.now.question walker.now.tables.now) place (slice_get walker.now.tables.now.units place) number }
 {
@@ -451,7 +452,7 @@ fn past_settings(walker: &Walker<'_, '_>, instance: &Instance, number: u32) -> R
     Ok(next)
 }
 
-/// The number behind the block of an instance.
+/// The number after the block of an instance.
 fn past_instance(walker: &Walker<'_, '_>, instance: &Instance, number: u32) -> Result<u32, Stop>
     ensures { result ≡ instance_walk (asked_of walker.now.question walker.now.tables.now) instance.now number }
 {
@@ -490,7 +491,7 @@ fn past_samples(walker: &Walker<'_, '_>, number: u32) -> Result<u32, Stop>
     Ok(next)
 }
 
-/// The number behind what a system is made of.
+/// The number after the units, the instances and the connections of a system.
 fn past_parts(walker: &Walker<'_, '_>, number: u32) -> Result<u32, Stop>
     ensures { result ≡ parts_walk (asked_of walker.now.question walker.now.tables.now) walker.now.tables.now number }
 {
@@ -535,7 +536,7 @@ fn past_rows(walker: &Walker<'_, '_>, given: Option<u32>, number: u32) -> Result
     }
 }
 
-/// The number behind the lines that say how a system is run.
+/// The number after the lines that set the limits of a run.
 fn past_limits(walker: &Walker<'_, '_>, number: u32) -> Result<u32, Stop>
     ensures { result ≡ limits_walk (asked_of walker.now.question walker.now.tables.now TopScope 0) walker.now.tables.now number }
 {
@@ -545,7 +546,7 @@ fn past_limits(walker: &Walker<'_, '_>, number: u32) -> Result<u32, Stop>
     past_rows(walker, walker.system().rows, number)
 }
 
-/// The number behind the last line.
+/// The number after the last line.
 fn past_system(walker: &Walker<'_, '_>) -> Result<u32, Stop>
     ensures { result ≡ system_walk (asked_of walker.now.question walker.now.tables.now) walker.now.tables.now 1 }
 {
@@ -560,7 +561,7 @@ fn past_system(walker: &Walker<'_, '_>) -> Result<u32, Stop>
     past_samples(walker, number)
 }
 
-/// One more than there are lines, or why a walk with a question stops.
+/// The number after the last line, or why a walk with this question stops.
 pub(crate) fn past_all(question: Question<'_>, tables: &SystemTables<'_>) -> Result<u32, Stop>
     ensures { result ≡ system_walk (asked_of question.entry tables.now) tables.now 1 }
 {
@@ -568,7 +569,7 @@ pub(crate) fn past_all(question: Question<'_>, tables: &SystemTables<'_>) -> Res
     past_system(&walker)
 }
 
-/// The first line that breaks a rule; else one more than there are lines.
+/// Stops at the first line that breaks a rule; else the number after the last line.
 pub(crate) fn first_broken_line(rule: SystemRule, tables: &SystemTables<'_>) -> Result<u32, Stop>
     requires ranged { IsRanged tables.now }
     ensures { Says result (lines_breaking (defined rule) tables.now) }

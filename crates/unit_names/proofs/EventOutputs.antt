@@ -1,4 +1,5 @@
--- An event output by the choices of its expression: the kind of its word, and how deep and dear its two plain outputs are.
+-- An event output, by the choices of its expression: the kind of its word, and the depth and cost of its two plain
+-- outputs.
 use Rattle.std.proofs.Common.{◌≡◌, ℕ, zero, suc, ◌+◌, pos, Bool, false, ◌&&◌, Some, max, min, nat_le, refl, ap, sym, subst, ◌∙◌, arith}
 use Rattle.fixed_words.specs.Types.{kind_of}
 use Rattle.fixed_words.specs.declared.types.Ty.{Ty}
@@ -52,13 +53,13 @@ other_node (Expr-F.Choose cond chosen other) =
 other_node Expr-F.Absent = subst IsOther (sym rolls-Absent) (λ no_choice present gap change. absurd (present refl))
 other_node (Expr-F.Present name) = subst IsOther (sym (rolls-Present name)) (λ no_choice present gap change. choices-Present gap change name)
 
--- An expression that is neither `if` nor `absent` is one choice.
+-- An expression that is not an `if` and not `absent` is one choice.
 pub one_choice : (value : Expr) → IsOther value
 one_choice = ind-Expr IsOther (λ x y is. subst (λ z. IsOther (roll-Expr z)) is (other_node y))
 
 -- ---- The word of an event output
 
--- The expression, and a choice that is left as it is.
+-- The expression, and a choice that is left unchanged.
 abbrev same : Expr → Expr
 same value = value
 

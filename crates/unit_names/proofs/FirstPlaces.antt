@@ -1,4 +1,4 @@
--- What stands at the first place of a name is the first thing that has it.
+-- The element at the first place of a name is the first one that has it.
 use Rattle.std.proofs.Common.{◌≡◌, ℕ, ◌+◌, Bool, true, false, List, [], ◌∷◌, map, Option, Some, None, bytes_eq, refl, ap, ◌∙◌, add-one}
 use mathlib.Core.Bool.{cond}
 use Rattle.std.specs.Prelude.{slice_get}
@@ -11,7 +11,7 @@ use Rattle.unit_tree.specs.declared.unit.Unit.{Unit}
 use Rattle.unit_names.specs.Found.{first_place}
 use Rattle.unit_names.specs.Systems.{unit_names, instance_names}
 
--- Where a list begins one place later, so does what is found.
+-- Where a list begins one place later, so does the place that is found.
 pub later : (test : List ℕ → Bool) (place : ℕ) (names : List (List ℕ))
     → position_from test (place + 1) names ≡ option_map (λ found. found + 1) (position_from test place names)
 later test place [] = refl

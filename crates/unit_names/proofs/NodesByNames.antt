@@ -1,4 +1,4 @@
--- What is asked of each node of an expression is asked of its names.
+-- A test of each node of an expression is a test of its names.
 use Rattle.std.proofs.Common.{◌≡◌, Bool, true, false, ◌&&◌, ◌||◌, not, ℕ, List, ◌++◌, append_assoc, refl, ap, sym, ◌∙◌, subst}
 use Rattle.std.specs.List.{list_any}
 use Rattle.std.proofs.lemmas.List.Folds.{list_all-append, list_any-append}
@@ -57,9 +57,9 @@ module _ (test : List ℕ → Bool) where
 pub nodes_have_names : (unit : Unit) (needs : List (List ℕ)) (value : Expr) → nodes_have (is_other_input unit needs) value ≡ uses_other_input unit needs value
 nodes_have_names unit needs value = has_names (is_other_input unit needs) value
 
--- ---- All keep to what may be used
+-- ---- All nodes use only what they may
 
--- Three tests of two parts, by part or by test.
+-- Three tests of two parts, grouped by part or by test.
 regroup : (a b c d e f : Bool) → ((a && (b && c)) && (d && (e && f))) ≡ ((a && d) && ((b && e) && (c && f)))
 regroup false b c d e f = refl
 regroup true false c true e f = refl
@@ -81,7 +81,7 @@ allowed_two allowed one other =
     ∙ crossed (allowed.time || not one.time) (allowed.time || not other.time) (allowed.step || not one.step) (allowed.step || not other.step)
 
 module _ (uses : Uses) where
-  -- What an expression's names, its `present` and its clocks have to keep.
+  -- The tests of an expression's names, its `present` and its clocks.
   abbrev kept : List (List ℕ) → List (List ℕ) → Clocks → Bool
   kept names events clocks = are_among uses.names names && (are_among uses.events events && are_allowed uses.clocks clocks)
 
@@ -166,6 +166,6 @@ module _ (uses : Uses) where
       (sym (fold-roll-Expr (List (List ℕ)) node_events parts))
       ∙ ap (λ clocks. kept (names_in (roll-Expr parts)) (events_asked_in (roll-Expr parts)) clocks) (sym (fold-roll-Expr Clocks node_clocks parts))
 
-  -- Each node keeps to what may be used exactly where the expression does.
+  -- Each node uses only what it may exactly where the expression does.
   pub nodes_are_kept : (value : Expr) → nodes_keep uses value ≡ keeps_to uses value
   nodes_are_kept = ind-Expr Keeps (λ x y is. subst (λ z. Keeps (roll-Expr z)) is (node y))

@@ -43,7 +43,7 @@ turned one other = step (bytes_eq one other) (bytes_eq other one) refl refl
     step true false is also = let back = bytes_of other one (sym (same_bytes one other is)) in absurd (cc)
     step false true is also = let back = bytes_of one other (sym (same_bytes other one also)) in absurd (cc)
 
--- Two names that stand in a list are equal exactly where their first places are.
+-- Two names that are in a list are equal exactly where their first places are.
 pub by_places : (from : ℕ) (names : List (List ℕ)) (one other : List ℕ) (i j : ℕ) → position_from (bytes_eq one) from names ≡ Some i
     → position_from (bytes_eq other) from names ≡ Some j → bytes_eq one other ≡ nat_eq i j
 by_places from [] one other i j is also = absurd (cc)
@@ -91,7 +91,7 @@ unit_by_name : (system : System) (one other : PortName) → bytes_eq one.instanc
 unit_by_name system one other is =
     ap (λ name. option_and_then (unit_of_instance system) (instance_named system name)) (same_bytes one.instance other.instance is)
 
--- Two ports that resolve are the same exactly where the first places of their instances and their own places are equal.
+-- Two ports that are found are equal exactly where the first places of their instances and their own places are.
 resolved : (ports : Unit → List Port) (system : System) (one other : PortName) (i j : ℕ) (a b : Declared)
     → first_place (instance_names system) one.instance ≡ Some i → first_place (instance_names system) other.instance ≡ Some j
     → option_and_then (λ unit. port_among (ports unit) one.port) (unit_at system one) ≡ Some a

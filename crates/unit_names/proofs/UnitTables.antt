@@ -1,4 +1,4 @@
--- What tables say of a unit, in the words of its definitions.
+-- What tables give for a unit, by its definitions.
 use Rattle.std.proofs.Common.{◌≡◌, ℕ, ◌+◌, Bool, true, false, ◌||◌, List, [], ◌∷◌, ◌++◌, map, Some, is_some, bytes_eq, refl, ap, ◌∙◌, append_assoc}
 use Rattle.std.proofs.lemmas.List.{map-append}
 use Rattle.std.proofs.lemmas.List.Folds.{list_any-append}
@@ -58,7 +58,7 @@ stands_at place (first ∷ others) q = step (bytes_eq q first.name) (stands_at (
     step true rest = refl
     step false rest = rest
 
--- It is found with the type of the first thing that has it.
+-- It is found with the type of the first declaration that has it.
 typed_from : {D : Type 0} (name : D → List ℕ) (ty : D → Ty) (event : Bool) (place : ℕ) (all : List D) (q : List ℕ)
     → option_map type_of (declared_from place (map (λ d. record { name = name d; ty = ty d; is_event = event }) all) q)
     ≡ option_map ty (find (λ d. bytes_eq (name d) q) all)
@@ -97,7 +97,7 @@ types_from place (first ∷ others) q =
 types_are : (unit : Unit) → map variable_of (types_named unit) ≡ declared_in unit
 types_are unit = simp (map-append, map-map, append_assoc)
 
--- The first declaration by the order in which types are looked for has the name's type.
+-- The first declaration, in the order in which types are searched, has the name's type.
 pub type_found : (unit : Unit) (q : List ℕ) → option_map type_of (declared_among (types_named unit) q) ≡ type_in unit q
 type_found unit q = types_from 0 (types_named unit) q ∙ ap (λ variables. type_among variables q) (types_are unit)
 
@@ -127,7 +127,7 @@ inputs_are unit = simp (map-append, map-map)
 pub outputs_are : (unit : Unit) → map port_as_named (output_ports unit) ≡ all_outputs_named unit
 outputs_are unit = simp (map-append, map-map)
 
--- ---- As the questions are asked
+-- ---- In the form of the queries
 
 names_of_each : {D : Type 0} (name : D → List ℕ) (ty : D → Ty) (event : Bool) (all : List D) (q : List ℕ)
     → is_some (declared_among (map (λ d. record { name = name d; ty = ty d; is_event = event }) all) q) ≡ is_among (map name all) q

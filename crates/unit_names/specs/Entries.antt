@@ -46,9 +46,9 @@ outputs_named outputs = map (λ output. named output.name output.ty) outputs
 abbrev pub events_out_named : List EventOut → List Named
 events_out_named events = map (λ output. event output.name output.ty) events
 
--- ---- Lists of names that are asked together
+-- ---- Lists of names that are searched together
 
--- All that a unit declares, in canonical order of its lines.
+-- All that a unit declares, in the canonical order of its lines.
 abbrev pub lines_named : Unit → List Named
 lines_named unit =
     params_named unit.params
@@ -59,7 +59,7 @@ lines_named unit =
     ++ outputs_named unit.outputs
     ++ events_out_named unit.events_out
 
--- All that a unit declares, in the order in which a name's type is looked for.
+-- All that a unit declares, in the order in which a name's type is searched.
 abbrev pub types_named : Unit → List Named
 types_named unit =
     params_named unit.params
@@ -70,18 +70,18 @@ types_named unit =
     ++ outputs_named unit.outputs
     ++ events_out_named unit.events_out
 
--- What every expression of a unit may name.
+-- The names that every expression of a unit may use.
 abbrev pub shared_named : Unit → List Named
 shared_named unit =
     params_named unit.params ++ states_named unit.states ++ inputs_named unit.inputs ++ events_in_named unit.events_in
 
--- The inputs, and the outputs, by declaration, in which event ports come after the plain ones.
+-- The inputs, and the outputs, in the order of declaration, with event ports after the plain ones.
 abbrev pub all_inputs_named : Unit → List Named
 all_inputs_named unit = inputs_named unit.inputs ++ events_in_named unit.events_in
 
 abbrev pub all_outputs_named : Unit → List Named
 all_outputs_named unit = outputs_named unit.outputs ++ events_out_named unit.events_out
 
--- A port as it is named.
+-- A port with its name, its type and whether it is an event port.
 abbrev pub port_as_named : Port → Named
 port_as_named port = record { name = port.name; ty = port.ty; is_event = port.is_event }

@@ -16,7 +16,7 @@ use Rattle.unit_tree.specs.declared.unit.Unit.{Unit}
 abbrev pub first_place : List (List ℕ) → List ℕ → Option ℕ
 first_place names name = position_from (bytes_eq name) 0 names
 
--- All names that a unit declares, in canonical order of its lines.
+-- All names that a unit declares, in the canonical order of its lines.
 abbrev pub declared_names : Unit → List (List ℕ)
 declared_names unit =
     map (λ param. param.name) unit.params
@@ -27,11 +27,11 @@ declared_names unit =
     ++ map (λ output. output.name) unit.outputs
     ++ map (λ event. event.name) unit.events_out
 
--- How a name is declared at a place.
+-- A declaration with its place in a list.
 abbrev pub declared_at : ℕ → Named → Declared
 declared_at place one = record { place = place; ty = one.ty; is_event = one.is_event }
 
--- The first declaration of a name, where the list starts at a place.
+-- The first declaration of a name, where the list starts at this place.
 abbrev pub declared_from : ℕ → List Named → List ℕ → Option Declared
 declared_from place [] name = None
 declared_from place (first ∷ others) name =
@@ -44,11 +44,11 @@ declared_among all name = declared_from 0 all name
 abbrev pub port_among : List Port → List ℕ → Option Declared
 port_among ports name = declared_among (map port_as_named ports) name
 
--- An entry of a table's list, as it is named.
+-- An entry of a table's list, as it is declared.
 abbrev pub as_named : Entry → Named
 as_named entry = record { name = entry.name.now; ty = entry.ty; is_event = entry.is_event }
 
--- What a table finds by the bytes of a name.
+-- The value that a table has for a name, by its bytes.
 abbrev pub found_in : {V : Type 0} → BTreeMap (Bor (List ℕ)) V → List ℕ → Option V
 found_in table name = get_by (λ key. slice_cmp nat_cmp name key.now) table
 

@@ -1,4 +1,4 @@
--- The names of a system, and the ports that they tell.
+-- The names of a system, and the ports that names of ports refer to.
 use Rattle.std.specs.Prelude.{ℕ, List, map, Option}
 use Rattle.std.specs.Option.{option_and_then}
 use Rattle.unit_tree.specs.Names.{unit_at, input_ports, output_ports}

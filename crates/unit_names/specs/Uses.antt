@@ -1,4 +1,4 @@
--- Which names an expression may use, by what it stands for.
+-- Which names an expression may use, by where it is.
 use Rattle.std.specs.Prelude.{Bool, true, false, not, ◌&&◌, ◌||◌, ℕ, List}
 use Rattle.unit_tree.specs.Names.{Uses, is_among, input_names, output_uses, max_uses, step_uses}
 use Rattle.unit_tree.specs.declared.expr.Expr.{Expr, fold-Expr}
@@ -7,13 +7,13 @@ use Rattle.unit_tree.specs.declared.unit.Unit.{Unit}
 use Rattle.unit_names.specs.declared.uses.Asker.{Asker}
 use Rattle.unit_names.specs.declared.uses.Asker.TheVariants as asker
 
--- What an expression may use, as that of an output, of `max`, or on a step line.
+-- What an expression may use as that of an output, of `max`, or on a step line.
 abbrev pub uses_of : Asker → Unit → Uses
 uses_of asker.Output unit = output_uses unit
 uses_of asker.Max unit = max_uses unit
 uses_of asker.Step unit = step_uses unit
 
--- Whether each node of an expression keeps to what may be used.
+-- Whether each node of an expression uses only what it may use.
 abbrev pub node_keeps : Uses → Expr-F Bool → Bool
 node_keeps uses (Expr-F.Var name) = is_among uses.names name
 node_keeps uses Expr-F.Time = uses.clocks.time
@@ -28,7 +28,7 @@ node_keeps uses _ = true
 abbrev pub nodes_keep : Uses → Expr → Bool
 nodes_keep uses = fold-Expr Bool (node_keeps uses)
 
--- A name is an input that is none of the needs.
+-- A name is an input that is not in the needs.
 abbrev pub is_other_input : Unit → List (List ℕ) → List ℕ → Bool
 is_other_input unit needs name = is_among (input_names unit) name && not (is_among needs name)
 

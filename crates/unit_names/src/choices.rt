@@ -1,4 +1,5 @@
-//! The two plain outputs that an event output becomes, by its expression: how deep they are, and what they cost.
+//! The two plain outputs that an event output becomes, from its expression: how deep they are, and what they
+//! cost.
 ghost use Rattle.std.specs.Prelude.{◌≡◌, ◌+◌, ◌≤◌, min, nat_le, ◌&&◌};
 ghost use Rattle.unit_tree.specs.Costs.{cost_of};
 ghost use Rattle.unit_tree.specs.Names.{depth_of};
@@ -9,7 +10,7 @@ use crate::expressions::{MOST, cost, is_within};
 use fixed_words::Ty;
 use unit_tree::Expr;
 
-/// How deep the zero of a type's kind is, and what it costs.
+/// The depth and the cost of the zero of a type's kind.
 fn zero_size(ty: Ty) -> u32
     ensures { result ≡ zero_size ty }
 {
@@ -35,7 +36,7 @@ fn choice_cost(cond: u32, yes: u32, no: u32) -> u32
     (cond + 1 + yes + 1 + no).min(MOST)
 }
 
-/// Whether the expression that tells if an event occurs is at most so deep.
+/// Whether the expression of an event's presence is at most `depth` deep.
 pub fn presence_is_within(expr: &Expr, depth: u32) -> bool
     ensures { result ≡ nat_le (depth_of (presence_of expr.now)) depth }
 {
@@ -53,7 +54,7 @@ pub fn presence_is_within(expr: &Expr, depth: u32) -> bool
     }
 }
 
-/// Whether the expression of an event's word is at most so deep.
+/// Whether the expression of an event's word is at most `depth` deep.
 pub fn word_is_within(ty: Ty, expr: &Expr, depth: u32) -> bool
     ensures { result ≡ nat_le (depth_of (word_expression_of ty expr.now)) depth }
 {
@@ -71,7 +72,7 @@ pub fn word_is_within(ty: Ty, expr: &Expr, depth: u32) -> bool
     }
 }
 
-/// The cost of the expression that tells if an event occurs, or 100,001 where it is more.
+/// The cost of the expression of an event's presence, or 100,001 where it is more.
 pub fn presence_cost(expr: &Expr) -> u32
     ensures { result ≡ min (cost_of (presence_of expr.now)) 100001 }
 {

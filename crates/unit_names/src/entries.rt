@@ -1,4 +1,4 @@
-//! A unit's declarations in the lists of which its tables are made.
+//! A unit's declarations, in the lists from which its tables are made.
 ghost use Rattle.std.specs.Prelude.{◌≡◌, ◌++◌, OnOk, IfOk, map};
 ghost use Rattle.unit_names.specs.Entries.{named, event, params_named, locals_named, events_in_named, lines_named, types_named, shared_named, all_inputs_named, all_outputs_named};
 ghost use Rattle.unit_names.specs.Found.{as_named, FindsDeclared};
@@ -8,13 +8,13 @@ use fixed_words::{NoMemory, Ty};
 use std::alloc::Global;
 use unit_tree::{EventIn, EventOut, Input, Local, Name, Output, Param, State, Unit};
 
-/// What a unit declares by a name and a type.
+/// A declaration of a unit, with a name and a type.
 trait Declaration {
     ghost use Rattle.std.specs.Prelude.{◌≡◌};
     ghost use Rattle.unit_names.specs.Entries.{Named};
     ghost use Rattle.unit_names.specs.Found.{as_named};
 
-    /// The declaration, as it is named.
+    /// The name, the type and whether it is an event port, for contracts.
     ghost named_by: { Self → Named };
 
     /// Its name and its type, and whether it is an event port.
@@ -22,7 +22,7 @@ trait Declaration {
         ensures { as_named result ≡ named_by self.now };
 }
 
-/// What is declared by a line without `event`.
+/// The entry of a line without `event`.
 fn plain(name: &Name, ty: Ty) -> Entry<'_>
     ensures { as_named result ≡ named name.now ty }
 {
@@ -114,7 +114,7 @@ impl Declaration for EventOut {
     }
 }
 
-/// Adds what is declared, in its order.
+/// Adds declarations, in their order.
 fn put_all<'a, D: Declaration>(
     entries: &mut Vec<Entry<'a>>,
     declarations: &'a [D],
@@ -127,7 +127,7 @@ fn put_all<'a, D: Declaration>(
     Ok(())
 }
 
-/// The table of all that a unit declares, in canonical order of its lines.
+/// The table of all that a unit declares, in the canonical order of its lines.
 pub(crate) fn lines_table<'a>(alloc: Global, unit: &'a Unit) -> Result<Table<'a>, NoMemory>
     ensures { IfOk result (FindsDeclared (lines_named unit.now)) }
 {
@@ -142,7 +142,7 @@ pub(crate) fn lines_table<'a>(alloc: Global, unit: &'a Unit) -> Result<Table<'a>
     table_of(alloc, entries.as_slice())
 }
 
-/// The table of all that a unit declares, in the order in which a name's type is looked for.
+/// The table of all that a unit declares, in the order in which a name's type is searched.
 pub(crate) fn types_table<'a>(alloc: Global, unit: &'a Unit) -> Result<Table<'a>, NoMemory>
     ensures { IfOk result (FindsDeclared (types_named unit.now)) }
 {
@@ -157,7 +157,7 @@ pub(crate) fn types_table<'a>(alloc: Global, unit: &'a Unit) -> Result<Table<'a>
     table_of(alloc, entries.as_slice())
 }
 
-/// The table of what every expression of a unit may name.
+/// The table of the names that every expression of a unit may use.
 pub(crate) fn shared_table<'a>(alloc: Global, unit: &'a Unit) -> Result<Table<'a>, NoMemory>
     ensures { IfOk result (FindsDeclared (shared_named unit.now)) }
 {

@@ -1,4 +1,4 @@
-//! What is asked of expressions and step lines alone: how deep they are, and what they cost.
+//! Tests of expressions and step lines alone: how deep they are, and what they cost.
 ghost use Rattle.std.specs.Prelude.{◌≡◌, map, min, nat_le};
 ghost use Rattle.std.specs.List.{sum};
 ghost use Rattle.unit_tree.specs.Costs.{cost_of, line_cost as line_cost_of};
@@ -6,10 +6,10 @@ ghost use Rattle.unit_tree.specs.Names.{depth_of};
 
 use unit_tree::{Expr, Line};
 
-/// Costs are counted up to here: one more than a call may cost.
+/// Costs are counted up to this number, one more than a call may cost.
 pub(crate) const MOST: u32 = 100_001;
 
-/// Whether an expression is at most so deep. A leaf is 1 deep.
+/// Whether an expression is at most `depth` deep. The depth of a leaf is 1.
 pub fn is_within(expr: &Expr, depth: u32) -> bool
     ensures { result ≡ nat_le (depth_of expr.now) depth }
 {

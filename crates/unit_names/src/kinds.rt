@@ -12,7 +12,7 @@ use crate::units::UnitNames;
 use fixed_words::{Kind, Ty};
 use unit_tree::{BinOp, Expr, UnOp, kind_of_number};
 
-/// Whether two kinds are one.
+/// Whether two kinds are equal.
 pub fn is_same_kind(one: Kind, other: Kind) -> bool
     ensures { result ≡ same_kind one other }
 {
@@ -78,7 +78,7 @@ fn binary_kind(op: BinOp, x: Kind, y: Kind) -> Option<Kind>
     }
 }
 
-/// The kind of `if`, by those of its condition and its branches.
+/// The kind of `if`, from those of its condition and its branches.
 fn choice_kind(cond: Option<Kind>, yes: Option<Kind>, no: Option<Kind>) -> Option<Kind>
     ensures { result ≡ choice_kind cond yes no }
 {
@@ -88,7 +88,7 @@ fn choice_kind(cond: Option<Kind>, yes: Option<Kind>, no: Option<Kind>) -> Optio
     where_holds(is_same_kind(c, Kind::Bool) && is_same_kind(x, y), x)
 }
 
-/// Whether there are two kinds and they are one.
+/// Whether both kinds are there and are equal.
 fn is_of_kind(found: Option<Kind>, asked: Option<Kind>) -> bool
     ensures { result ≡ is_of_kind found asked }
 {
@@ -106,7 +106,7 @@ impl<'a> UnitNames<'a> {
         Some(self.type_in(name)?.kind())
     }
 
-    /// The kind of an expression; none where an operand has a wrong one, a name is not declared, or `absent` stands in
+    /// The kind of an expression. None where an operand has a wrong one, a name is not declared, or `absent` occurs in
     /// it.
     pub fn kind(&self, expr: &Expr) -> Option<Kind>
         ensures { result ≡ kind_of_expression expr.now (kinds_in self.now) }
@@ -141,7 +141,7 @@ impl<'a> UnitNames<'a> {
         }
     }
 
-    /// Whether an expression has the kind that is asked for.
+    /// Whether an expression has the required kind.
     pub fn has_kind(&self, asked: Option<Kind>, expr: &Expr) -> bool
         ensures { result ≡ has_kind asked expr.now (kinds_in self.now) }
     {
@@ -155,7 +155,7 @@ impl<'a> UnitNames<'a> {
         self.has_kind(self.kind_named(target), value)
     }
 
-    /// The kind of an event output's word: that of its expression, where each `absent` that may stand there counts as
+    /// The kind of an event output's word: that of its expression, where each `absent` that is allowed there counts as
     /// a zero of the output's type.
     fn word_kind(&self, ty: Ty, expr: &Expr) -> Option<Kind>
         ensures { result ≡ kind_of_expression (word_expression_of ty expr.now) (kinds_in self.now) }

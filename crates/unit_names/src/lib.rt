@@ -1,16 +1,17 @@
-//! Tables of a system's names, and what the rules ask of names and expressions.
+//! Tables of a system's names, and the tests of names and expressions that the rules need.
 //!
-//! The layer above walks the lines of a system and asks. [`SystemNames`] finds units, instances and ports by name;
-//! [`UnitNames`] finds what a unit declares, and says which names an expression uses and of which kind it is. Both are
-//! made once, are seen by contracts as the system and the unit themselves, and find a name without going through a list;
-//! the needs of one output, which are few, are gone through.
-//! How deep an expression is, what a call costs, and whether a name is said twice, need no table. Of an event output
-//! they are answered for the two plain outputs that it becomes ([`presence_cost`], [`word_cost`] and their like),
-//! without making these; any other line of the plain form is as deep and as dear as its source.
+//! The layer above walks over the lines of a system and calls these tests. [`SystemNames`] finds units, instances and
+//! ports by name. [`UnitNames`] finds what a unit declares, which names an expression uses, and which kind it has. Both
+//! are made once. Contracts see them as the system and the unit themselves. They find a name without a search through a
+//! list, except among the needs of one output, which are few.
 //!
-//! What is asked is defined in `unit_tree`: `Names`, `Kinds`, `Costs`, `Plain` and `WellFormed`. How it is found stands
-//! in `specs/`: `Entries` (what a table is made of), `Found` (the first declaration of a name), `Systems` (ports of a
-//! system), `Uses` (what an expression may use) and `Choices` (event outputs).
+//! How deep an expression is, what a call costs, and whether a name occurs twice need no table. For an event output
+//! they are computed for the two plain outputs that it becomes ([`presence_cost`], [`word_cost`] and similar
+//! functions), without making these. Any other line of the plain form has the depth and the cost of its source.
+//!
+//! The tests are defined in `unit_tree`: `Names`, `Kinds`, `Costs`, `Plain` and `WellFormed`. How they are computed is
+//! defined in `specs/`: `Entries` (from what a table is made), `Found` (the first declaration of a name), `Systems`
+//! (ports of a system), `Uses` (what an expression may use) and `Choices` (event outputs).
 #![tactic(auto)]
 
 mod choices;

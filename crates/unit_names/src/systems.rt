@@ -75,7 +75,7 @@ fn places_of_instances<'a>(alloc: Global, instances: &'a [Instance]) -> Result<P
 }
 
 impl<'a> SystemNames<'a> {
-    /// The tables of a system.
+    /// Makes the tables of a system. The only error is that there is no memory.
     pub fn new(alloc: Global, system: &'a System) -> Result<SystemNames<'a>, NoMemory>
         ensures { IfOk result (λ names. names ≡ system.now) }
     {
@@ -111,7 +111,7 @@ impl<'a> SystemNames<'a> {
         find(&self.instance_places, name)
     }
 
-    /// The unit of a number, from 0.
+    /// The unit with a number, from 0.
     pub fn unit(&self, number: usize) -> Option<&UnitNames<'a>>
         ensures { option_copied result ≡ slice_get self.now.units number }
     {

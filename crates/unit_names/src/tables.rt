@@ -1,4 +1,4 @@
-//! Tables of names: the first declaration of each name, found without going through a list.
+//! Tables of names: the first declaration of each name, found without a search through a list.
 ghost use Rattle.std.specs.Prelude.{◌≡◌, ℕ, List, Some, None, IfOk, map, bytes_eq, if◌then◌else◌};
 ghost use Rattle.std.specs.Option.{option_or};
 ghost use Rattle.unit_names.specs.Found.{as_named, found_in, FindsDeclared};
@@ -7,8 +7,8 @@ use fixed_words::{NoMemory, Ty};
 use std::alloc::Global;
 use std::collections::BTreeMap;
 
-/// How a name is declared first among some: at which place, counted from 0, with which type, and whether as an
-/// event port.
+/// The first declaration of a name in a list: its place, counted from 0, its type, and whether it is an event
+/// port.
 #[derive(Clone, Copy, Debug, PartialEq, Eq)]
 pub struct Declared {
     pub place: usize,
@@ -16,7 +16,7 @@ pub struct Declared {
     pub is_event: bool,
 }
 
-/// A declaration of which a table is made.
+/// A declaration from which a table is made.
 #[derive(Clone, Copy)]
 pub(crate) struct Entry<'a> {
     pub name: &'a [u8],
@@ -30,14 +30,14 @@ pub(crate) type Table<'a> = BTreeMap<&'a [u8], Declared>;
 /// Places by name.
 pub(crate) type Places<'a> = BTreeMap<&'a [u8], usize>;
 
-/// What is noted under a name.
+/// The value of a name in a table.
 pub(crate) fn find<V: Copy>(table: &BTreeMap<&[u8], V>, name: &[u8]) -> Option<V>
     ensures { result ≡ found_in table.now name.now }
 {
     table.get(name).copied()
 }
 
-/// Notes a name, where it was not noted before.
+/// Adds a name to a table, if it is not there already.
 pub(crate) fn note<'a, V: Drop>(
     table: &mut BTreeMap<&'a [u8], V>,
     name: &'a [u8],
@@ -52,7 +52,7 @@ pub(crate) fn note<'a, V: Drop>(
     Ok(())
 }
 
-/// The table of some declarations.
+/// Makes the table of these declarations.
 pub(crate) fn table_of<'a>(alloc: Global, entries: &[Entry<'a>]) -> Result<Table<'a>, NoMemory>
     ensures { IfOk result (FindsDeclared (map as_named entries.now)) }
 {

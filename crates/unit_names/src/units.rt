@@ -39,7 +39,7 @@ fn declarations_of<'a>(alloc: Global, unit: &'a Unit) -> Result<Declarations<'a>
     })
 }
 
-/// What the expressions of a unit may name.
+/// The names that expressions of a unit may use.
 #[derive(Drop)]
 struct Usable<'a> {
     shared: Table<'a>,
@@ -63,7 +63,7 @@ fn usable_of<'a>(alloc: Global, unit: &'a Unit) -> Result<Usable<'a>, NoMemory>
     })
 }
 
-/// The tables of a unit, but for those of its ports.
+/// The tables of a unit, except those of its ports.
 #[derive(Drop)]
 struct NameTables<'a> {
     declared: Declarations<'a>,
@@ -109,8 +109,8 @@ fn place_of(found: Option<Declared>) -> Option<usize>
 
 /// A unit, with tables of all that it declares. Contracts see it as the unit.
 ///
-/// Equal names are allowed everywhere: each question is answered by the first declaration of a name among those that
-/// it is about.
+/// Equal names are allowed everywhere: the result is that of the first declaration of the name among those that are
+/// searched.
 #[derive(Drop)]
 pub struct UnitNames<'a> {
     unit: &'a Unit,
@@ -144,11 +144,11 @@ impl<'a> Model for UnitNames<'a> {
 }
 
 impl<'a> UnitNames<'a> {
-    /// The tables of a unit.
+    /// Makes the tables of a unit. The only error is that there is no memory.
     pub fn new(alloc: Global, unit: &'a Unit) -> Result<UnitNames<'a>, NoMemory>
         ensures { IfOk result (λ names. names ≡ unit.now) }
     {
-        // The larger part comes last: a proof grows by what is dropped on a way out.
+        // The larger part comes last, since the proof grows with what is dropped on an early return.
         let ports = ports_of(alloc, unit)?;
         let names = name_tables_of(alloc, unit)?;
         Ok(UnitNames { unit, names, ports })
@@ -161,7 +161,7 @@ impl<'a> UnitNames<'a> {
         self.unit
     }
 
-    /// The first place of a name among all that the unit declares, in canonical order of its lines: parameters,
+    /// The first place of a name among all that the unit declares, in the canonical order of its lines: parameters,
     /// states, locals, inputs, event inputs, outputs, event outputs.
     #[tactic(auto, using(crate::proofs::UnitTables::place_found))]
     pub fn first_place(&self, name: &[u8]) -> Option<usize>
@@ -194,7 +194,7 @@ impl<'a> UnitNames<'a> {
         find(&self.names.declared.params, name).is_some()
     }
 
-    /// Whether a name is an input, be it an event input.
+    /// Whether a name is an input, plain or of events.
     #[tactic(auto, using(crate::proofs::UnitTables::input_stands))]
     pub fn is_input(&self, name: &[u8]) -> bool
         ensures { result ≡ is_among (input_names self.now) name.now }
@@ -202,7 +202,7 @@ impl<'a> UnitNames<'a> {
         find(&self.ports.inputs, name).is_some()
     }
 
-    /// Whether a name is an output, be it an event output.
+    /// Whether a name is an output, plain or of events.
     #[tactic(auto, using(crate::proofs::UnitTables::output_stands))]
     pub fn is_output(&self, name: &[u8]) -> bool
         ensures { result ≡ is_among (output_names self.now) name.now }

@@ -7,18 +7,18 @@ ghost use Rattle.unit_names.specs.Uses.{uses_of, nodes_keep, nodes_have, is_othe
 use crate::units::UnitNames;
 use unit_tree::{Expr, Name};
 
-/// What an expression stands for, which says what it may use.
+/// Where an expression is, which decides what it may use.
 #[derive(Clone, Copy, Debug, PartialEq, Eq)]
 pub enum Asker {
     /// An output's value: parameters, states and inputs.
     Output,
-    /// The longest step: these, and `t`.
+    /// The longest step, `max`: the same, and `t`.
     Max,
-    /// A step line: these, locals, `t` and `h`.
+    /// A step line: the same as `max`, locals and `h`.
     Step,
 }
 
-/// Whether a name is one of some.
+/// Whether a name is in a list.
 pub fn is_among(names: &[Name], name: &[u8]) -> bool
     ensures { result ≡ is_among names.now name.now }
 {
@@ -107,7 +107,7 @@ impl<'a> UnitNames<'a> {
         }
     }
 
-    /// Whether an expression uses only what it may, by what it stands for.
+    /// Whether an expression uses only what it may, by where it is.
     #[tactic(auto, using(crate::proofs::NodesByNames::nodes_are_kept))]
     pub fn keeps_to(&self, asker: Asker, expr: &Expr) -> bool
         ensures { result ≡ keeps_to (uses_of asker self.now) expr.now }
@@ -140,7 +140,7 @@ impl<'a> UnitNames<'a> {
         }
     }
 
-    /// Whether an expression uses an input, be it in `present`, that is none of the needs.
+    /// Whether an expression uses an input that is not in the needs, also in `present`.
     #[tactic(auto, using(crate::proofs::NodesByNames::nodes_have_names))]
     pub fn uses_other_input(&self, needs: &[Name], expr: &Expr) -> bool
         ensures { result ≡ uses_other_input self.now needs.now expr.now }

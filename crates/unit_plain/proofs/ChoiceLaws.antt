@@ -1,4 +1,4 @@
--- What the plain form makes of an event output's expression by its choices.
+-- The plain form of an event output's expression, by its choices.
 use Rattle.std.proofs.Common.{◌≡◌, refl, ap, sym, subst, ◌∙◌}
 use Rattle.language_laws.proofs.PlainLemmas.{choices-Number, choices-Truth, choices-Var, choices-Time, choices-Step, choices-Unary, choices-Binary}
 use Rattle.language_laws.proofs.PlainLemmas.{choices-Clamp, choices-Choose, choices-Present, plain-Choose}
@@ -24,7 +24,7 @@ choice_plain gap change value cond then_part else_part first second third is on_
     ∙ ap plain_expression (sym (choices-Choose gap change cond then_part else_part))
     ∙ ap (λ e. plain_expression (with_choices gap change e)) (sym is)
 
--- ---- What is neither an `if` nor `absent`
+-- ---- Expressions that are not an `if` and not `absent`
 
 abbrev IsChanged : Expr → Type 0
 IsChanged value = (gap : Expr) (change : Expr → Expr) → ((cond then_part else_part : Expr) → value ≡ expr.Choose cond then_part else_part → ⊥)

@@ -1,4 +1,4 @@
--- The outputs of a unit, of which those of events stand after all others.
+-- The outputs of a unit, with event outputs after all others.
 use Rattle.std.proofs.Common.{◌≡◌, ℕ, Bool, true, false, not, ◌&&◌, ◌||◌, List, [], ◌∷◌, ◌++◌, map, Option, Some, Result, Ok, Err, refl, ap, sym, ◌∙◌}
 use Rattle.std.proofs.Common.{append_assoc}
 use Rattle.std.specs.Prelude.{if◌then◌else◌, OnOk}
@@ -51,7 +51,8 @@ among_ports (output ∷ outputs) events name =
     output_or_later (bytes_eq output.name name) (list_any (λ output. bytes_eq output.name name) outputs) (list_any (λ event. bytes_eq event.name name) events)
     (plain_port output) (port_named (map plain_port outputs ++ map event_port_of events) name) refl (among_ports outputs events name)
 
--- The first output of a name is one of events where no plain one has it, and one of events does.
+-- The first output with a name is an event output where no plain output has the name and an event
+-- output does.
 pub event_port : (unit : Unit) (name : List ℕ) (outputs : List Output) (events : List EventOut) (here among : Bool) → outputs ≡ unit.outputs
     → events ≡ unit.events_out → here ≡ list_any (λ output. bytes_eq output.name name) outputs → among ≡ list_any (λ event. bytes_eq event.name name) events
     → (not here && among) ≡ is_of_events (port_named (output_ports unit) name)
@@ -79,7 +80,7 @@ ports_of_unit before instance unit =
     append_assoc before (map (λ output. port_of instance output.name) unit.outputs) (map (λ event. port_of instance event.name) unit.events_out)
     ∙ ap (λ rest. before ++ rest) (named_ports instance unit.outputs unit.events_out)
 
--- The names of an instance's outputs stand behind others, those of its plain outputs first.
+-- The names of an instance's outputs are appended to others, first those of its plain outputs.
 pub ports_put : (before between after : List PortName) (instance : Instance) (unit : Unit) (outputs : List Output) (events : List EventOut)
     → outputs ≡ unit.outputs → events ≡ unit.events_out → between ≡ before ++ map (λ output. port_of instance output.name) outputs
     → after ≡ between ++ map (λ event. port_of instance event.name) events

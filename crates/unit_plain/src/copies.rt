@@ -1,9 +1,9 @@
-//! Copies: what a system holds, once more.
+//! Copies of the parts of a system.
 use fixed_words::{List, NoMemory};
 use std::alloc::Global;
 use unit_tree::{EventIn, Input, Instance, Local, Name, Param, PortName, Setting, State, Wire};
 
-/// What can be copied, with all that it holds.
+/// A value that can be copied, with all that it holds.
 pub(crate) trait Copied: Drop {
     ghost use Rattle.std.specs.Prelude.{◌≡◌, IfOk};
 

@@ -1,4 +1,4 @@
-//! Expressions: copies, and what the plain form makes of them.
+//! Expressions: copies, and their plain forms.
 ghost use Rattle.std.specs.Prelude.{◌≡◌, ◌++◌, ◌∷◌, [], IfOk};
 ghost use Rattle.unit_tree.specs.Plain.{presence_name, plain_expression, presence_of, word_expression_of, zero_of};
 
@@ -7,7 +7,7 @@ use fixed_words::{Boxed, List, NoMemory, Ty};
 use std::alloc::Global;
 use unit_tree::{Expr, Name, UnOp};
 
-/// The name of the port that tells whether an event occurs: the event's with `?` behind it.
+/// The name of the port that is true where an event occurs: the event port's name followed by `?`.
 pub(crate) fn presence_name(alloc: Global, name: &Name) -> Result<Name, NoMemory>
     ensures { IfOk result (λ presence. presence ≡ presence_name name.now) }
 {
@@ -106,7 +106,7 @@ pub(crate) fn plain_expression(alloc: Global, expr: &Expr) -> Result<Expr, NoMem
     })
 }
 
-/// The presence of an event output in a box.
+/// The plain expression of an event's presence, in a box.
 #[cycle(presence)]
 fn boxed_presence(alloc: Global, value: &Expr) -> Result<Boxed<Expr>, NoMemory>
     ensures { IfOk result (λ plain. plain ≡ plain_expression (presence_of value.now)) }
@@ -114,8 +114,8 @@ fn boxed_presence(alloc: Global, value: &Expr) -> Result<Boxed<Expr>, NoMemory>
     Boxed::new(alloc, plain_presence(alloc, value)?)
 }
 
-/// The plain form of whether an event occurs, of an event output's expression: false for `absent`, and true for every
-/// other choice.
+/// The plain expression that is true where an event occurs, from an event output's expression: false for `absent`, and
+/// true for every other choice.
 #[cycle(presence)]
 #[tactic(auto, using(language_laws::proofs::PlainLemmas::plain_laws))]
 pub(crate) fn plain_presence(alloc: Global, value: &Expr) -> Result<Expr, NoMemory>
@@ -157,7 +157,7 @@ fn zero(alloc: Global, ty: Ty) -> Result<Expr, NoMemory>
     })
 }
 
-/// The word of an event output in a box.
+/// The plain expression of an event's word, in a box.
 #[cycle(word)]
 fn boxed_word(alloc: Global, ty: Ty, value: &Expr) -> Result<Boxed<Expr>, NoMemory>
     ensures { IfOk result (λ plain. plain ≡ plain_expression (word_expression_of ty value.now)) }
@@ -165,7 +165,8 @@ fn boxed_word(alloc: Global, ty: Ty, value: &Expr) -> Result<Boxed<Expr>, NoMemo
     Boxed::new(alloc, plain_word(alloc, ty, value)?)
 }
 
-/// The plain form of the event's word, of an event output's expression, with the zero of the type's kind for `absent`.
+/// The plain expression of an event's word, from an event output's expression, with the zero of the type's kind for
+/// `absent`.
 #[cycle(word)]
 #[tactic(auto, using(language_laws::proofs::PlainLemmas::plain_laws))]
 pub(crate) fn plain_word(alloc: Global, ty: Ty, value: &Expr) -> Result<Expr, NoMemory>

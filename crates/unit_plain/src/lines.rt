@@ -1,4 +1,4 @@
-//! Step lines: copies, and what the plain form makes of them.
+//! Step lines: copies, and their plain forms.
 ghost use Rattle.std.specs.Prelude.{◌≡◌, map, IfOk};
 ghost use Rattle.unit_tree.specs.Plain.{plain_line};
 

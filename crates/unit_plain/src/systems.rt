@@ -14,10 +14,10 @@ use fixed_words::{List, NoMemory};
 use std::alloc::Global;
 use unit_tree::{EventOut, Instance, Name, Output, PortName, System, Unit, Wire};
 
-/// A copy of a system, of either version: all that it holds, its event ports too. It is independent of the system that
-/// it was copied from, which stays as it is.
+/// Returns a copy of a system of either version, with all that it holds, also its event ports. The copy is independent
+/// of the system, which is unchanged.
 ///
-/// The one error is want of memory.
+/// The only error is that there is no memory.
 pub fn copy_system(alloc: Global, system: &System) -> Result<System, NoMemory>
     ensures { IfOk result (λ copy. copy ≡ system.now) }
 {
@@ -94,14 +94,14 @@ fn has_event_output(events: &[EventOut], name: &[u8]) -> bool
     false
 }
 
-/// Whether the unit's output of the name is one of events.
+/// Whether the unit's output of the name is an event output.
 fn is_event_port(unit: &Unit, name: &[u8]) -> bool
     ensures { result ≡ unwrap_or (option_map (λ output. output.is_event) (port_named (output_ports unit.now) name.now)) false }
 {
     !has_output(unit.outputs.as_slice(), name) && has_event_output(unit.events_out.as_slice(), name)
 }
 
-/// Whether the output that a port names is one of events.
+/// Whether the output that a port names is an event output.
 fn is_event_output(system: &System, port: &PortName) -> bool
     ensures { result ≡ is_event_output system.now port.now }
 {
@@ -111,7 +111,7 @@ fn is_event_output(system: &System, port: &PortName) -> bool
     }
 }
 
-/// The port that tells whether an event occurs at another.
+/// The port that is true where an event occurs at another port.
 fn presence_port(alloc: Global, port: &PortName) -> Result<PortName, NoMemory>
     ensures { IfOk result (λ presence. presence ≡ presence_port port.now) }
 {
@@ -121,7 +121,7 @@ fn presence_port(alloc: Global, port: &PortName) -> Result<PortName, NoMemory>
     })
 }
 
-/// Puts what a connection becomes: that of event ports is two, that of the `?` ports first.
+/// Appends what a connection becomes: that of event ports becomes two, first that of the `?` ports.
 fn put_wire(
     alloc: Global,
     wires: &mut List<Wire>,
@@ -161,7 +161,7 @@ fn port_of(alloc: Global, instance: &Instance, port: &Name) -> Result<PortName, 
     })
 }
 
-/// Puts the plain outputs of an instance.
+/// Appends the plain outputs of an instance.
 fn put_outputs(
     alloc: Global,
     ports: &mut List<PortName>,
@@ -176,7 +176,7 @@ fn put_outputs(
     Ok(())
 }
 
-/// Puts the event outputs of an instance.
+/// Appends the event outputs of an instance.
 fn put_event_outputs(
     alloc: Global,
     ports: &mut List<PortName>,
@@ -191,7 +191,7 @@ fn put_event_outputs(
     Ok(())
 }
 
-/// Puts the outputs of an instance of a unit, those of events after all others.
+/// Appends the outputs of an instance of a unit, event outputs after all others.
 fn put_ports_of_unit(
     alloc: Global,
     ports: &mut List<PortName>,
@@ -204,7 +204,7 @@ fn put_ports_of_unit(
     put_event_outputs(alloc, ports, instance, unit.events_out.as_slice())
 }
 
-/// Puts the outputs of an instance; none where its unit isn't there.
+/// Appends the outputs of an instance, or none where its unit is not declared.
 fn put_ports(
     alloc: Global,
     ports: &mut List<PortName>,
@@ -231,7 +231,7 @@ fn all_outputs(alloc: Global, system: &System) -> Result<List<PortName>, NoMemor
     Ok(ports)
 }
 
-/// What is sampled, or all outputs where nothing is.
+/// The sampled outputs, or all outputs where none is sampled.
 fn samples_or_all(alloc: Global, system: &System) -> Result<List<PortName>, NoMemory>
     ensures { IfOk result (λ samples. samples ≡ samples_or_all system.now) }
 {
@@ -274,10 +274,11 @@ fn with_plain_ports(alloc: Global, system: &System) -> Result<System, NoMemory>
     })
 }
 
-/// The plain form of a system, in which each event port is two plain ports: the port `p?`, which tells whether an event
-/// occurs, and the port `p`, which has the event's word or 0. A system of version 1 is its own, and is copied.
+/// Returns the plain form of a system, in which each event port is two plain ports: the port `p?`, which is true where
+/// an event occurs, and the port `p`, which has the event's word or 0. A system of version 1 is its own plain form, and
+/// is copied.
 ///
-/// The one error is want of memory.
+/// The only error is that there is no memory.
 pub fn plain_form(alloc: Global, system: &System) -> Result<System, NoMemory>
     ensures { IfOk result (λ plain. plain ≡ plain_form system.now) }
 {

@@ -1,4 +1,4 @@
-//! Units: copies, and what the plain form makes of them.
+//! Units: copies, and their plain forms.
 ghost use Rattle.std.specs.Prelude.{◌≡◌, ◌++◌, map, IfOk, OnOk};
 ghost use Rattle.std.specs.List.{flat_map};
 ghost use Rattle.std.specs.Option.{option_map};
@@ -74,7 +74,7 @@ impl Copied for Unit {
 
 // ---- Inputs
 
-/// What an input starts with where no event occurs.
+/// The start literal of the plain input, which it has where no event occurs.
 fn no_event(ty: Ty) -> Literal
     ensures { result ≡ no_event ty }
 {
@@ -87,7 +87,7 @@ fn no_event(ty: Ty) -> Literal
     }
 }
 
-/// Puts the two inputs that an event input becomes: whether an event occurs, and its word.
+/// Appends the two inputs that an event input becomes: whether an event occurs, and its word.
 fn put_event_input(alloc: Global, inputs: &mut List<Input>, event: &EventIn) -> Result<(), NoMemory>
     ensures { OnOk result (inputs.new ≡ inputs.old ++ plain_inputs event.now) }
 {
@@ -105,7 +105,7 @@ fn put_event_input(alloc: Global, inputs: &mut List<Input>, event: &EventIn) -> 
     inputs.push(word)
 }
 
-/// The inputs of the plain form: those of events after all others.
+/// The inputs of the plain form, those of events after all others.
 fn plain_inputs(alloc: Global, unit: &Unit) -> Result<List<Input>, NoMemory>
     ensures { IfOk result (λ plain. plain ≡ unit.now.inputs ++ flat_map plain_inputs unit.now.events_in) }
 {
@@ -130,7 +130,7 @@ fn is_event_input(events: &[EventIn], name: &[u8]) -> bool
     false
 }
 
-/// Puts what a need becomes: that of an event input is two.
+/// Appends what a need becomes: an event input becomes two.
 fn put_need(alloc: Global, needs: &mut List<Name>, unit: &Unit, name: &Name) -> Result<(), NoMemory>
     ensures { OnOk result (needs.new ≡ needs.old ++ plain_need unit.now name.now) }
 {
@@ -165,7 +165,7 @@ fn plain_output(alloc: Global, unit: &Unit, output: &Output) -> Result<Output, N
     })
 }
 
-/// Puts the two outputs that an event output becomes: whether an event occurs, and its word.
+/// Appends the two outputs that an event output becomes: whether an event occurs, and its word.
 fn put_event_output(
     alloc: Global,
     outputs: &mut List<Output>,
@@ -201,7 +201,7 @@ fn plain_outputs(alloc: Global, unit: &Unit) -> Result<List<Output>, NoMemory>
     Ok(outputs)
 }
 
-/// Puts what the event outputs become.
+/// Appends what the event outputs become.
 fn put_event_outputs(alloc: Global, outputs: &mut List<Output>, unit: &Unit) -> Result<(), NoMemory>
     ensures { OnOk result (outputs.new ≡ outputs.old ++ flat_map (plain_outputs unit.now) unit.now.events_out) }
 {
@@ -211,7 +211,7 @@ fn put_event_outputs(alloc: Global, outputs: &mut List<Output>, unit: &Unit) -> 
     Ok(())
 }
 
-/// The outputs of the plain form: those of events after all others.
+/// The outputs of the plain form, those of events after all others.
 fn all_outputs(alloc: Global, unit: &Unit) -> Result<List<Output>, NoMemory>
     ensures { IfOk result (λ plain. plain
         ≡ map (plain_output unit.now) unit.now.outputs ++ flat_map (plain_outputs unit.now) unit.now.events_out) }

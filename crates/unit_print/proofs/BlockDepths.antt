@@ -1,4 +1,4 @@
--- How deep blocks stand in each other, by a limit.
+-- How deep blocks are nested, up to a limit.
 use Rattle.std.proofs.Common.{◌≡◌, ℕ, suc, max, Bool, true, false, ◌&&◌, List, [], ◌∷◌, ◌+◌, map, Some, None, ap, ◌∙◌, arith, ◌≤◌}
 use Rattle.std.specs.Prelude.{nat_le}
 use Rattle.std.specs.List.{list_all, fold}
@@ -11,7 +11,7 @@ use Rattle.unit_tree.proofs.FoldLemmas.{fold-If, fold-Repeat}
 use Rattle.unit_print.proofs.NestingLaws.{max_within, one_more}
 use Rattle.list_laws.proofs.Truths.{and_true}
 
--- A greatest depth from some depth on.
+-- The greatest depth, from some depth on.
 deepest_from : (from limit : ℕ) (lines : List Line)
     → nat_le (fold max from (map line_depth lines)) limit ≡ (nat_le from limit && list_all (λ line. nat_le (line_depth line) limit) lines)
 deepest_from from limit [] = grind (arith, nat_tests)
@@ -23,7 +23,7 @@ none_within limit = grind (arith, nat_tests)
 too_deep : (depth limit : ℕ) → limit ≤ 0 → nat_le (suc depth) limit ≡ false
 too_deep depth limit none = grind (arith, nat_tests)
 
--- Blocks stand at most so deep in each line.
+-- Blocks are nested at most this deep in each line.
 abbrev pub are_within : ℕ → List Line → Bool
 are_within limit lines = list_all (λ line. nat_le (line_depth line) limit) lines
 

@@ -1,4 +1,4 @@
--- What a line of a step with its block, and the names behind `needs`, put behind a text.
+-- How a line of a step with its block, and the names after `needs`, are appended to a text.
 use Rattle.std.proofs.Common.{◌≡◌, ◌≤◌, ℕ, List, [], ◌∷◌, ◌++◌, ◌-◌, length, take, drop, get_or, Option, sym, ap, ◌∙◌, arith}
 use Rattle.std.proofs.Math.Seq.{take-length}
 use Rattle.std.specs.Prelude.{map}

@@ -1,4 +1,4 @@
--- What is asked of blocks, parts and systems, by what is asked of their lines.
+-- The tests of blocks, parts and systems, from the tests of their lines.
 use Rattle.std.proofs.Common.{◌≡◌, ◌≤◌, ℕ, Bool, true, false, ◌&&◌, List, [], ◌∷◌, ◌++◌, map, Option, Some, None, refl, sym, ap, ◌∙◌, arith}
 use Rattle.std.specs.Prelude.{nat_le, not, ◌||◌, ◌==◌}
 use Rattle.std.specs.List.{list_all, flat_map}
@@ -23,7 +23,7 @@ use Rattle.list_laws.proofs.Lists.{flat_all, mapped_all}
 
 -- ---- Lists
 
--- And where each part is one line.
+-- The same where each part is one line.
 mapped_one : {A B C : Type 0} (test : C → Bool) (forms : B → List C) (part : A → B) (line : A → C) → ((x : A) → forms (part x) ≡ line x ∷ [])
     → (xs : List A) → list_all test (flat_map forms (map part xs)) ≡ list_all (λ x. test (line x)) xs
 mapped_one test forms part line is [] = refl
@@ -33,7 +33,7 @@ mapped_one test forms part line is (x ∷ xs) =
     ∙ ap (λ here. here && list_all test (flat_map forms (map part xs))) (and_true (test (line x)))
     ∙ ap (λ rest. test (line x) && rest) (mapped_one test forms part line is xs)
 
--- Two lists of parts in a row, each with what is told of it.
+-- Two lists of parts in a row, each with its test.
 flat_cut : {A B : Type 0} (test : B → Bool) (f : A → List B) (xs ys : List A) (one other : Bool) → list_all test (flat_map f xs) ≡ one
     → list_all test (flat_map f ys) ≡ other → list_all test (flat_map f (xs ++ ys)) ≡ (one && other)
 flat_cut test f xs ys one other here rest =
@@ -87,7 +87,7 @@ repeat_fits version whole count body is =
     ∙ ap (λ rest. ((nat_le 1 count && nat_le count 1000) && true) && rest) (block_fits version (joined (map line_forms body)) _ (joined_fit version body))
     ∙ ap (λ here. here && steps_fit version body) (and_true (nat_le 1 count && nat_le count 1000))
 
--- What is left to be asked where the first tests hold, and where one of them fails.
+-- Which test is left where the first tests hold, and where one of them fails.
 pub third_decides : (one other third told : Bool) → one ≡ true → other ≡ true → told ≡ third → told ≡ (one && (other && third))
 third_decides one other third told first second is = is ∙ sym (ap (λ here. here && (other && third)) first ∙ ap (λ here. here && third) second)
 
@@ -111,18 +111,18 @@ step_fits version lines =
 
 -- ---- Units
 
--- A header, and what stands behind it.
+-- A header, and what follows it.
 behind_header : (range second told rest : Bool) → told ≡ rest → ((range && (not second || second)) && told) ≡ (range && rest)
 behind_header false second told rest is = refl
 behind_header true false told rest is = is
 behind_header true true told rest is = is
 
--- A head that says one name, and what stands behind it.
+-- A head with one name, and what follows it.
 behind_name : (name told rest : Bool) → told ≡ rest → (((name && true) && true) && told) ≡ (name && rest)
 behind_name true told rest is = is
 behind_name false told rest is = refl
 
--- Ten answers in a row as three groups and eight as three.
+-- Ten tests in a row as three groups, and eight tests as three.
 unit_groups : (declared one two three four five six : Bool)
     → ((((((declared && one) && two) && three) && four) && five) && six) ≡ ((declared && (((one && two) && three) && four)) && (five && six))
 unit_groups false one two three four five six = refl
@@ -197,7 +197,7 @@ instances_fit version (instance ∷ instances) =
     ap (λ here. here && list_all (λ one. list_all (line_fits version) (part_forms (parts.HasInstance one))) instances) (instance_lines_fit version instance)
     ∙ ap (λ rest. instance_fits instance && rest) (instances_fit version instances)
 
--- The limits of a run are alike in both versions.
+-- The limits of a run have the same form in both versions.
 stop_fits : (version : ℕ) (given : Option Literal) → parts_fit version (optional parts.Stop given) ≡ parts_fit 1 (optional parts.Stop given)
 stop_fits version None = refl
 stop_fits version (Some seconds) = refl
@@ -214,7 +214,7 @@ rows_fit : (version : ℕ) (given : Option ℕ) → parts_fit version (optional 
 rows_fit version None = refl
 rows_fit version (Some count) = refl
 
--- Four tests, of which all but the last hold, or one doesn't.
+-- Four tests: all but the last are true, or one of these is false.
 pub fourth_decides : (one two three four told : Bool) → one ≡ true → two ≡ true → three ≡ true → told ≡ four → told ≡ (one && ((two && three) && four))
 fourth_decides one two three four told first second third is =
     is ∙ sym (ap (λ here. here && ((two && three) && four)) first ∙ ap (λ here. (here && three) && four) second ∙ ap (λ here. here && four) third)

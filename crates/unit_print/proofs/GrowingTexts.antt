@@ -1,4 +1,4 @@
--- Text that grows from the left is the text that is joined from the right.
+-- A text that grows at its end is the text that is joined from the last piece on.
 use Rattle.std.proofs.Common.{◌≡◌, ℕ, ◌-◌, Bool, true, false, List, [], ◌∷◌, ◌++◌, length, Option, Some, None, refl, sym, ap, ◌∙◌, append_assoc, arith, suc}
 use Rattle.std.proofs.Common.{zero, ◌<◌, ◌^◌, ◌+◌, take, drop, replicate, decimal, if◌then◌else◌}
 use Rattle.std.specs.Prelude.{IsTrue, IsFalse, slice_get, map, ◌&&◌, ◌||◌}
@@ -161,7 +161,7 @@ settings_are text (setting ∷ settings) = settings_are (with_lines text (form.S
 
 -- ---- Blocks
 
--- A block: its head, what stands in it, and its end.
+-- A block: its head, the lines in it, and its end.
 pub block_is : (text : List ℕ) (head : LineForm) (body : List LineForm)
     → with_lines text (head ∷ body ++ (form.End ∷ [])) ≡ with_lines (with_lines (with_lines text (head ∷ [])) body) (form.End ∷ [])
 block_is text head body = lines_append (with_lines text (head ∷ [])) body (form.End ∷ [])

@@ -1,4 +1,4 @@
--- The tests of names, numbers and tails say what the rules ask.
+-- The tests of names, numbers and tails agree with the rules.
 use Rattle.std.proofs.Common.{◌≡◌, ◌≤◌, ◌<◌, ℕ, Bool, true, false, List, [], ◌∷◌, length, refl, ap, ◌∙◌}
 use Rattle.std.specs.Prelude.{not, nat_le, nat_lt, ◌&&◌, ◌||◌, ◌==◌}
 use Rattle.std.specs.List.{AllByRecursion, list_all, list_any}
@@ -174,7 +174,7 @@ counts_asked _ is = refl
 
 -- ---- Tails
 
--- What is known of a tail that may stand in a text of the version.
+-- What is known of a tail that is allowed in a text of the version.
 pub record TailFits (version : ℕ) (tail : Tail) : Type 0 where
   pub names : list_all is_name (names_on_expression (expression_in tail)) ≡ true
   pub in_range : IsTailInRange tail

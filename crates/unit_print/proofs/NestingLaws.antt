@@ -36,7 +36,7 @@ two_within a b limit first = sym (max_within a b limit ∙ ap (λ told. told && 
 
 -- ---- Nodes
 
--- How deep an expression is nested as it is written.
+-- How deep an expression, as it is written, is nested.
 abbrev levels : Expr → ℕ
 levels value = nesting (canonical_phrase value)
 
@@ -62,7 +62,7 @@ choose_within whole cond chosen other one two three less limit is is_one is_two 
     ap (λ (e : Expr). nat_le (levels e) less) is_three ∙ three_within (levels cond) (levels chosen) (levels other) less limit more a b
     ∙ ap (λ d. nat_le d limit) (sym node)
 
--- The operands of a call stand in no parentheses of their own, and are one level deeper.
+-- The operands of a call have no parentheses of their own, and are one level deeper.
 call_levels : (op : BinOp) (left right : Phrase) → IsTrue (is_call op)
     → nesting (phrase.Binary op (placed (left_level (binary_level op)) left) (placed (right_level (binary_level op)) right)) ≡ suc (max
     (nesting left) (nesting right))
@@ -99,7 +99,7 @@ call_within whole left right one two op less limit called is is_one is_two more 
     ∙ sym (one_more (max (levels left) (levels right)) less limit more)
     ∙ ap (λ d. nat_le d limit) (sym node)
 
--- Those of any other operation are no deeper.
+-- The operands of any other operation are no deeper.
 infix_levels : (op : BinOp) (deepest : ℕ) → IsFalse (is_call op) → binary_nesting op deepest ≡ deepest
 infix_levels by.Min deepest is = absurd cc
 infix_levels by.Max deepest is = absurd cc

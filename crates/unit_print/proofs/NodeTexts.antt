@@ -1,4 +1,4 @@
--- What one node of an expression puts behind a text.
+-- What is appended to a text for one node of an expression.
 use Rattle.std.proofs.Common.{◌≡◌, ℕ, List, ◌∷◌, ◌++◌, refl, sym, ap, ◌∙◌}
 use Rattle.std.specs.Prelude.{IsTrue, IsFalse}
 use Rattle.unit_tree.specs.Canonical.{canonical_phrase, node_phrase, placed, expression_tokens}

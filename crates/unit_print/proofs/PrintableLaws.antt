@@ -24,14 +24,14 @@ use Rattle.unit_print.proofs.LineTests.{tail_told, tail_asked, names_told, names
 
 -- ---- One line
 
--- What is known of a line that may stand in a text of the version.
+-- What is known of a line that is allowed in a text of the version.
 pub record Fits (version : ℕ) (some : LineForm) : Type 0 where
   pub names : AllByRecursion IsName (names_on some)
   pub in_range : IsInRange some
   pub writable : is_writable (tail_of some) ≡ true
   pub of_version : (not (is_of_version_2 some) || (version == 2)) ≡ true
 
--- A line is of version 2 by how it begins or by its expression.
+-- A line is of version 2 by its first tokens or by its expression.
 by_parts : (some : LineForm) → is_of_version_2 some ≡ (begins_in_version_2 some || tail_speaks_of_events (tail_of some))
 by_parts (form.Header version) = or_nothing (version == 2)
 by_parts _ = refl
@@ -94,7 +94,7 @@ all_writable : (version : ℕ) (lines : List LineForm) → AllByRecursion (Fits 
 all_writable version [] all = refl
 all_writable version (first ∷ others) all = and_from _ _ all.0.writable (all_writable version others all.1)
 
--- In a text of version 1 no line is of version 2, and none is of an event port.
+-- In a text of version 1 no line is of version 2, or declares an event port.
 not_second : (told : Bool) → (not told || false) ≡ true → told ≡ false
 not_second false is = refl
 not_second true is = absurd (cc)
@@ -134,7 +134,7 @@ lines_fit version (first ∷ others) range second names ranged writable =
 
 -- ---- Lengths
 
--- One byte more, where the rest of the line is measured from there on.
+-- One more byte, where the rest of the line is measured from there on.
 one_byte : (before : ℕ) (line rest : List ℕ) (room : Bool) → nat_lt before 1000 ≡ room
     → (suc before ≤ 1000 → are_short (suc before) (line ++ (10 ∷ rest)) ≡ (nat_le (suc before + length line) 1000 && are_short 0 rest))
     → (room && are_short (suc before) (line ++ (10 ∷ rest))) ≡ (nat_le (before + suc (length line)) 1000 && are_short 0 rest)
@@ -210,7 +210,7 @@ printable_passes system printable =
       short = lines_short system.version (canonical_forms system) fits ∙ printable.lines;
     }
 
--- ---- Answers
+-- ---- Results
 
 -- Where a line or a block fails its test the system is not printable.
 pub refused : (system : System) (told : Bool)

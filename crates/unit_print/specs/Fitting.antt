@@ -1,4 +1,4 @@
--- The rules of printable systems as tests, line by line.
+-- The conditions on printable systems as tests, line by line.
 use Rattle.std.specs.Prelude.{ℕ, suc, Bool, true, false, not, ◌&&◌, ◌||◌, ◌==◌, nat_le, nat_lt, List, [], ◌∷◌, length, if◌then◌else◌}
 use Rattle.std.specs.Int.{is_negative}
 use Rattle.std.specs.List.{list_all, list_any, flat_map}
@@ -64,8 +64,8 @@ abbrev pub seconds_fit : Literal → Bool
 seconds_fit (literal.Truth told) = false
 seconds_fit (literal.Number number decimals) = nat_le decimals decimals_limit && (not (is_negative number) && is_word_of types.Int64 number)
 
--- Whether an expression may stand on a line of a text of the version: its names are names, its numbers are in range and
--- not negative, it is nested at most 64 levels deep, and it speaks of events in version 2 alone.
+-- Whether an expression may be on a line of a text of the version: its names are names, its numbers are in range and
+-- not negative, it is nested at most 64 levels deep, and it has `absent` or `present` only in version 2.
 unfoldable pub expression_fits : ℕ → Expr → Bool
 expression_fits version value =
     list_all is_name (names_in value)
@@ -73,7 +73,7 @@ expression_fits version value =
 
 -- ---- Lines
 
--- Whether the version, the counts and the decimals on a line are those that the language allows.
+-- Whether the version, the counts and the decimals on a line are in the ranges of the language.
 abbrev pub counts_fit : LineForm → Bool
 counts_fit (form.Header version) = nat_le 1 version && nat_le version 2
 counts_fit (form.Resolution decimals) = nat_le decimals decimals_limit
@@ -89,40 +89,41 @@ counts_fit (form.Zero count) = nat_le count zero_limit
 counts_fit (form.Rows count) = nat_le 1 count && nat_le count rows_limit
 counts_fit _ = true
 
--- Whether what a line ends with may stand in a text of the version.
+-- Whether the end of a line, after its first tokens, may be in a text of the version.
 abbrev pub tail_fits : ℕ → Tail → Bool
 tail_fits version Nothing = true
 tail_fits version (OfLiteral value) = literal_fits value
 tail_fits version (OfSeconds seconds) = seconds_fit seconds
 tail_fits version (OfExpression value) = expression_fits version value
 
--- Whether version 2 alone has lines that begin so.
+-- Whether only version 2 has lines that begin like this.
 abbrev pub begins_in_version_2 : LineForm → Bool
 begins_in_version_2 (form.Header version) = version == 2
 begins_in_version_2 (form.EventInput event) = true
 begins_in_version_2 (form.EventOutput event) = true
 begins_in_version_2 _ = false
 
--- Whether a line may stand in a text of the version, but for its length.
+-- Whether a line may be in a text of the version, apart from its length.
 abbrev pub line_fits : ℕ → LineForm → Bool
 line_fits version line =
     list_all is_name (names_said line) && (counts_fit line && (tail_fits version (tail_of line) && (not (begins_in_version_2 line) || (version == 2))))
 
--- Whether the lines of an instance may, which are alike in both versions.
+-- Whether the lines of an instance may be in a text of either version.
 abbrev pub instance_fits : Instance → Bool
 instance_fits instance = (is_name instance.name && is_name instance.unit) && list_all (λ setting. line_fits 1 (form.Setting setting)) instance.settings
 
--- Whether all lines of parts of a unit may.
+-- Whether all lines of parts of a unit may be in a text of the version.
 abbrev pub unit_parts_fit : ℕ → List UnitPart → Bool
 unit_parts_fit version parts = list_all (line_fits version) (flat_map unit_part_forms parts)
 
--- Whether all lines of parts of a system may.
+-- Whether all lines of parts of a system may be in a text of the version.
 abbrev pub parts_fit : ℕ → List Part → Bool
 parts_fit version parts = list_all (line_fits version) (flat_map part_forms parts)
 
 -- ---- Lengths
 
--- Whether the lines of a text, each ended by LF, have at most 1,000 bytes; of the first one, so many stand in front.
+-- Whether the lines of a text, each ended by LF, have at most 1,000 bytes, where this many bytes come before the
+-- first line's.
 abbrev pub are_short : ℕ → List ℕ → Bool
 are_short before [] = true
 are_short before (byte ∷ text) = if byte == 10 then are_short 0 text else (nat_lt before line_limit && are_short (suc before) text)

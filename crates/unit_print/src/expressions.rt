@@ -1,4 +1,4 @@
-//! Expressions, with the parentheses that the grammar asks for and no other.
+//! Expressions, with the parentheses that the grammar requires and no others.
 ghost use Rattle.std.specs.Prelude.{◌≡◌, ◌++◌, ◌∷◌, [], OnOk, IsTrue, IsFalse};
 ghost use Rattle.unit_tree.specs.Canonical.{canonical_phrase, placed, token_text, expression_tokens};
 ghost use Rattle.unit_tree.specs.Phrases as phrase;
@@ -19,14 +19,14 @@ fn truth_word(told: bool) -> Keyword
     if told { Keyword::True } else { Keyword::False }
 }
 
-/// Puts a truth value.
+/// Appends a truth value.
 pub(crate) fn truth(text: &mut Vec<u8>, told: bool) -> Result<(), NoMemory>
     ensures { OnOk result (text.new.items ≡ with_token text.old.items (keyword (truth_word told))) }
 {
     keyword(text, truth_word(told))
 }
 
-/// Puts the token of an operation on two operands.
+/// Appends the token of an operation on two operands.
 fn operation(text: &mut Vec<u8>, op: BinOp) -> Result<(), NoMemory>
     ensures { OnOk result (text.new.items ≡ with_token text.old.items (operation op)) }
 {
@@ -50,7 +50,8 @@ fn operation(text: &mut Vec<u8>, op: BinOp) -> Result<(), NoMemory>
     }
 }
 
-/// Puts an expression where the grammar asks for a level: in parentheses exactly where its own is weaker.
+/// Appends an expression where the grammar requires a level: in parentheses exactly where its own level
+/// is weaker.
 #[cycle(expression)]
 #[tactic(auto, using(crate::proofs::GrowingTexts::tokens_append))]
 fn put_placed(text: &mut Vec<u8>, asked: Level, expr: &Expr) -> Result<(), NoMemory>
@@ -103,7 +104,7 @@ fn unary(text: &mut Vec<u8>, op: UnOp, arg: &Expr) -> Result<(), NoMemory>
     }
 }
 
-/// Puts a word and an expression behind it.
+/// Appends a keyword and an expression after it.
 #[cycle(expression)]
 fn behind_keyword(text: &mut Vec<u8>, word: Keyword, expr: &Expr) -> Result<(), NoMemory>
     ensures { OnOk result (text.new.items ≡ with_tokens text.old.items (keyword word ∷ expression_tokens expr.now)) }
@@ -112,7 +113,7 @@ fn behind_keyword(text: &mut Vec<u8>, word: Keyword, expr: &Expr) -> Result<(), 
     expression(text, expr)
 }
 
-/// Puts a symbol and an expression behind it.
+/// Appends a symbol and an expression after it.
 #[cycle(expression)]
 fn behind_symbol(text: &mut Vec<u8>, spelled: Symbol, expr: &Expr) -> Result<(), NoMemory>
     ensures { OnOk result (text.new.items ≡ with_tokens text.old.items (symbol spelled ∷ expression_tokens expr.now)) }
@@ -131,7 +132,7 @@ fn present(text: &mut Vec<u8>, event: &[u8]) -> Result<(), NoMemory>
     symbol(text, Symbol::Close)
 }
 
-/// Puts an expression as it is written with no needless parentheses.
+/// Appends an expression without needless parentheses.
 #[cycle(expression)]
 #[tactic(auto, using(crate::proofs::GrowingTexts::tokens_append, crate::proofs::GrowingTexts::infix_tokens, crate::proofs::GrowingTexts::call_tokens))]
 pub(crate) fn expression(text: &mut Vec<u8>, expr: &Expr) -> Result<(), NoMemory>

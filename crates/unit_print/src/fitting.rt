@@ -1,6 +1,6 @@
-//! What is asked of the parts of a printable system, line by line, but for the lengths of the lines.
+//! Tests of the parts of a printable system, line by line, apart from the lengths of the lines.
 //!
-//! Of lines that are alike in both versions the clauses say what version 1 asks.
+//! The test of a line with the same form in both versions is stated by its clause for version 1.
 ghost use Rattle.std.specs.Prelude.{◌≡◌, ◌&&◌, nat_le};
 ghost use Rattle.std.specs.List.{list_all};
 ghost use Rattle.unit_tree.specs.Canonical.{optional, unit_parts, canonical_forms};
@@ -24,7 +24,7 @@ use unit_tree::{
 
 // ---- Steps
 
-/// Whether a line of a step may stand there, with the lines of its block.
+/// Whether a line of a step is allowed there, with the lines of its block.
 #[cycle(step)]
 fn step_line_fits(version: u8, line: &Line) -> bool
     ensures { result ≡ list_all (line_fits version) (line_forms line.now) }
@@ -48,7 +48,7 @@ fn step_line_fits(version: u8, line: &Line) -> bool
     }
 }
 
-/// Whether lines of a step may stand there.
+/// Whether lines of a step are allowed there.
 #[cycle(step)]
 fn step_lines_fit(version: u8, lines: &[Line]) -> bool
     ensures { result ≡ list_all (λ line. list_all (line_fits version) (line_forms line)) lines.now }
@@ -133,7 +133,7 @@ fn step_fits(version: u8, given: &Option<List<Line>>) -> bool
     }
 }
 
-/// Whether the resolution, the parameters, the states and the locals of a unit may stand there.
+/// Whether the resolution, the parameters, the states and the locals of a unit are allowed there.
 fn declarations_fit(unit: &Unit) -> bool
     ensures { result ≡ (unit_parts_fit 1 (optional parts.Resolution unit.now.resolution)
         && list_all (λ param. line_fits 1 (form.Param param)) unit.now.params
@@ -146,7 +146,7 @@ fn declarations_fit(unit: &Unit) -> bool
         && locals_fit(unit.locals.as_slice())
 }
 
-/// Whether the ports of a unit may.
+/// Whether the ports of a unit are allowed in a text of the version.
 fn ports_fit(version: u8, unit: &Unit) -> bool
     ensures { result ≡ (list_all (λ input. line_fits 1 (form.Input input)) unit.now.inputs
         && list_all (λ event. line_fits version (form.EventInput event)) unit.now.events_in
@@ -159,7 +159,7 @@ fn ports_fit(version: u8, unit: &Unit) -> bool
         && events_out_fit(version, unit.events_out.as_slice())
 }
 
-/// Whether the greatest step and the step of a unit may.
+/// Whether `max` and the step of a unit are allowed in a text of the version.
 fn calls_fit(version: u8, unit: &Unit) -> bool
     ensures { result ≡ (unit_parts_fit version (optional parts.Max unit.now.max)
         && unit_parts_fit version (optional parts.Step unit.now.step)) }
@@ -167,7 +167,7 @@ fn calls_fit(version: u8, unit: &Unit) -> bool
     max_fits(version, &unit.max) && step_fits(version, &unit.step)
 }
 
-/// Whether the lines of a unit may stand in a text of the version.
+/// Whether the lines of a unit are allowed in a text of the version.
 #[tactic(auto, using(crate::proofs::FittingParts::unit_fits))]
 fn unit_fits(version: u8, unit: &Unit) -> bool
     ensures { result ≡ list_all (line_fits version) (part_forms (parts.HasUnit unit.now.name (unit_parts unit.now))) }
@@ -225,7 +225,7 @@ fn samples_fit(samples: &[PortName]) -> bool
     samples.iter().all(|port| sample_fits(port))
 }
 
-/// Whether the `stop` or the `longest` of a system may be written.
+/// Whether an optional `stop` or `longest` may be written.
 fn perhaps_seconds_fit(given: Option<Literal>) -> bool
     ensures stop { result ≡ parts_fit 1 (optional parts.Stop given) }
     ensures longest { result ≡ parts_fit 1 (optional parts.Longest given) }
@@ -254,7 +254,7 @@ fn rows_fit(given: Option<u32>) -> bool
     }
 }
 
-/// Whether the units, the instances and the connections of a system may stand there.
+/// Whether the units, the instances and the connections of a system are allowed in a text of its version.
 fn components_fit(system: &System) -> bool
     ensures { result ≡ (list_all (λ unit. list_all (line_fits system.now.version) (part_forms (parts.HasUnit unit.name (unit_parts unit)))) system.now.units
         && list_all instance_fits system.now.instances
@@ -265,7 +265,7 @@ fn components_fit(system: &System) -> bool
         && wires_fit(system.wires.as_slice())
 }
 
-/// Whether the limits of a run may.
+/// Whether the limits of a run are allowed.
 fn limits_fit(system: &System) -> bool
     ensures { result ≡ (parts_fit 1 (optional parts.Stop system.now.stop)
         && parts_fit 1 (optional parts.Longest system.now.longest)
@@ -278,7 +278,8 @@ fn limits_fit(system: &System) -> bool
         && rows_fit(system.rows)
 }
 
-/// Whether each canonical line of a system may stand in a text of its version, but for the line's length.
+/// Whether each canonical line of a system is allowed in a text of its version, apart from the line's
+/// length.
 #[tactic(auto, using(crate::proofs::FittingParts::system_fits))]
 pub(crate) fn system_fits(system: &System) -> bool
     ensures { result ≡ list_all (line_fits system.now.version) (canonical_forms system.now) }

@@ -1,4 +1,4 @@
-//! What is asked of the expressions of a printable system.
+//! Tests of the expressions of a printable system.
 ghost use Rattle.std.specs.Prelude.{◌≡◌, nat_le};
 ghost use Rattle.std.specs.List.{list_all};
 ghost use Rattle.unit_tree.specs.Canonical.{canonical_phrase, placed};
@@ -78,7 +78,8 @@ fn is_unsigned(expr: &Expr) -> bool
     }
 }
 
-/// Whether an expression, where the grammar asks for a level, is nested at most so deep.
+/// Whether an expression, where the grammar requires a level, is nested at most `depth` levels
+/// deep.
 #[cycle(nesting)]
 fn placed_is_within(asked: Level, expr: &Expr, depth: u32) -> bool
     ensures { result ≡ nat_le (nesting (placed (grammar_level asked) (canonical_phrase expr.now))) depth }
@@ -90,7 +91,7 @@ fn placed_is_within(asked: Level, expr: &Expr, depth: u32) -> bool
     }
 }
 
-/// Whether an expression is nested at most so deep, as it is written.
+/// Whether an expression, as it is written, is nested at most `depth` levels deep.
 #[cycle(nesting)]
 fn is_within(expr: &Expr, depth: u32) -> bool
     ensures { result ≡ nat_le (nesting (canonical_phrase expr.now)) depth }
@@ -123,7 +124,8 @@ fn is_within(expr: &Expr, depth: u32) -> bool
     }
 }
 
-/// Whether an expression may stand on a line of a text of the version, but for the line's length.
+/// Whether an expression is allowed on a line of a text of the version, apart from the line's
+/// length.
 #[tactic(auto, unfolding(crate::specs::Fitting::expression_fits))]
 pub(crate) fn expression_fits(version: u8, expr: &Expr) -> bool
     ensures { result ≡ expression_fits version expr.now }

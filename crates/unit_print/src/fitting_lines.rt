@@ -1,6 +1,6 @@
-//! What is asked of the lines of a printable system, a function for each kind, but for their lengths.
+//! Tests of the lines of a printable system, a function for each kind, apart from their lengths.
 //!
-//! Of a line that is alike in both versions the clause says what version 1 asks.
+//! The test of a line with the same form in both versions is stated by its clause for version 1.
 ghost use Rattle.std.specs.Prelude.{◌≡◌, ◌&&◌};
 ghost use Rattle.std.specs.List.{list_all};
 ghost use Rattle.unit_tree.specs.declared.line_form.LineForm.TheVariants as form;

@@ -1,4 +1,4 @@
-//! The levels on which expressions stand in the grammar.
+//! The levels of expressions in the grammar.
 ghost use Rattle.std.specs.Prelude.{◌≡◌};
 ghost use Rattle.unit_tree.specs.Canonical.{canonical_phrase};
 ghost use Rattle.unit_tree.specs.Levels.{grammar_level};
@@ -8,14 +8,14 @@ ghost use Rattle.unit_print.specs.Calls.{is_call};
 use unit_tree::levels::{Level, allows, binary_level, unary_level};
 use unit_tree::{BinOp, Expr, UnOp};
 
-/// Whether the operation is written as a call, `min(a, b)`, which may stand everywhere.
+/// Whether the operation is written as a call, `min(a, b)`, which is allowed in every place.
 pub(crate) fn is_call(op: BinOp) -> bool
     ensures { result ≡ is_call op }
 {
     allows(Level::Primary, binary_level(op))
 }
 
-/// The level that an operation asks of its operand.
+/// The level that an operation requires of its operand.
 pub(crate) fn operand_level(op: UnOp) -> Level
     ensures { grammar_level result ≡ operand_level (unary_level op) }
 {

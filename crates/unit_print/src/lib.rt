@@ -1,9 +1,10 @@
-//! Canonical text: a system as the one text that is printed of it.
+//! Canonical text: the one text that is printed for a system.
 //!
-//! The layer above uses [`print_system`], and [`is_printable`], which tells whether the text is read back as the system.
-//! The definitions stand in `unit_tree`: `Canonical` (the lines, their tokens and how tokens are joined) and `Printable`
-//! (which systems have a canonical text). How the printer goes about it stands in `specs/Growing.antt`: a text that
-//! grows by tokens and lines from the left. How a system is judged stands in `specs/Fitting.antt`: a test for each line.
+//! The layer above uses [`print_system`], and [`is_printable`], which returns whether the text is read back as the
+//! system. The definitions are in `unit_tree`: `Canonical` (the lines, their tokens and how tokens are joined) and
+//! `Printable` (which systems have a canonical text). How the printer works is defined in `specs/Growing.antt`: a text
+//! that grows at its end by tokens and lines. How a system is judged is defined in `specs/Fitting.antt`: a test for
+//! each line.
 #![tactic(auto)]
 
 mod expressions;

@@ -13,7 +13,7 @@ use unit_tree::{
     Symbol, Wire,
 };
 
-/// Puts a type.
+/// Appends a type.
 fn type_name(text: &mut Vec<u8>, ty: Ty) -> Result<(), NoMemory>
     ensures { OnOk result (text.new.items ≡ with_tokens text.old.items (type_tokens ty)) }
 {
@@ -33,7 +33,7 @@ fn type_name(text: &mut Vec<u8>, ty: Ty) -> Result<(), NoMemory>
     }
 }
 
-/// Puts a literal, with `-` in front of a negative number alone.
+/// Appends a literal, with `-` only before a negative number.
 fn literal(text: &mut Vec<u8>, value: Literal) -> Result<(), NoMemory>
     ensures { OnOk result (text.new.items ≡ with_tokens text.old.items (literal_tokens value)) }
 {
@@ -48,7 +48,7 @@ fn literal(text: &mut Vec<u8>, value: Literal) -> Result<(), NoMemory>
     }
 }
 
-/// Puts a port, `a.y`.
+/// Appends a port, `a.y`.
 fn port_name(text: &mut Vec<u8>, port: &PortName) -> Result<(), NoMemory>
     ensures { OnOk result (text.new.items ≡ with_tokens text.old.items (port_tokens port.now)) }
 {
@@ -57,7 +57,7 @@ fn port_name(text: &mut Vec<u8>, port: &PortName) -> Result<(), NoMemory>
     name(text, port.port.as_slice())
 }
 
-/// Puts `p : T` behind a keyword.
+/// Appends a keyword and `p : T`.
 fn declared(text: &mut Vec<u8>, word: Keyword, called: &Name, ty: Ty) -> Result<(), NoMemory>
     ensures { OnOk result (text.new.items ≡ with_tokens text.old.items (declaration word called.now ty)) }
 {
@@ -67,7 +67,7 @@ fn declared(text: &mut Vec<u8>, word: Keyword, called: &Name, ty: Ty) -> Result<
     type_name(text, ty)
 }
 
-/// Puts names with a comma before each.
+/// Appends names with a comma before each.
 fn other_names(text: &mut Vec<u8>, names: &[Name]) -> Result<(), NoMemory>
     ensures { OnOk result (text.new.items ≡ with_tokens text.old.items (others_tokens names.now)) }
 {
@@ -78,7 +78,7 @@ fn other_names(text: &mut Vec<u8>, names: &[Name]) -> Result<(), NoMemory>
     Ok(())
 }
 
-/// Puts `needs u, v`; nothing where nothing is needed.
+/// Appends `needs u, v`, or nothing where there are no needs.
 #[tactic(auto, using(crate::proofs::GrowingTexts::names_are))]
 fn needed(text: &mut Vec<u8>, names: &[Name]) -> Result<(), NoMemory>
     ensures { OnOk result (text.new.items ≡ with_tokens text.old.items (needs_tokens names.now)) }
@@ -93,7 +93,7 @@ fn needed(text: &mut Vec<u8>, names: &[Name]) -> Result<(), NoMemory>
     }
 }
 
-/// Ends a line.
+/// Appends the end of a line.
 fn end_line(text: &mut Vec<u8>) -> Result<(), NoMemory>
     ensures { OnOk result (text.new.items ≡ text.old.items ++ (10 ∷ [])) }
 {

@@ -13,7 +13,7 @@ fn are_word_bytes(bytes: &[u8]) -> bool
     bytes.iter().all(|byte| is_word_byte(*byte))
 }
 
-/// Whether bytes may stand behind the first of a word.
+/// Whether bytes are allowed after the first byte of a word.
 fn goes_on(others: &[u8]) -> bool
     ensures { result ≡ (list_all is_word_byte others.now && nat_lt (length others.now) 32) }
 {

@@ -12,7 +12,7 @@ use model_rules::{DEEPEST_BLOCK, LONGEST_LINE, LONGEST_TEXT};
 use std::alloc::Global;
 use unit_tree::{Line, System, Unit};
 
-/// Whether blocks stand at most so deep in a line.
+/// Whether blocks are nested at most `depth` deep in a line.
 #[cycle(depth)]
 fn line_is_within(line: &Line, depth: u32) -> bool
     ensures { result ≡ nat_le (line_depth line.now) depth }
@@ -33,7 +33,7 @@ fn line_is_within(line: &Line, depth: u32) -> bool
     }
 }
 
-/// Whether blocks stand at most so deep in each line.
+/// Whether blocks are nested at most `depth` deep in each line.
 #[cycle(depth)]
 fn lines_are_within(lines: &[Line], depth: u32) -> bool
     ensures { result ≡ list_all (λ line. nat_le (line_depth line) depth) lines.now }
@@ -88,7 +88,7 @@ fn text_fits(text: &[u8]) -> bool
     text.len() <= LONGEST_TEXT && has_short_lines(text)
 }
 
-/// Whether the lines of a system, but for their lengths, and its blocks are as the language asks.
+/// Whether the lines of a system, apart from their lengths, and its blocks are within the limits of the language.
 fn parts_fit(system: &System) -> bool
     ensures { result ≡ (list_all (line_fits system.now.version) (canonical_forms system.now)
         && list_all (λ unit. nat_le (step_depth unit.step) 16) system.now.units) }
@@ -97,9 +97,9 @@ fn parts_fit(system: &System) -> bool
 }
 
 /// Whether a system has a canonical text that is read back as the system: its names, its numbers, the nesting of its
-/// expressions and blocks, its lines and the text as a whole keep what the language asks.
+/// expressions and blocks, its lines and the whole text are as the language requires.
 ///
-/// The one error is want of memory: the text is made where nothing else speaks against it.
+/// The only error is that there is no memory: the text is made if all other conditions hold.
 pub fn is_printable(alloc: Global, system: &System) -> Result<bool, NoMemory>
     ensures { IfOk result (λ told. IsTrue told ↔ IsPrintable system.now) }
 {

@@ -112,7 +112,7 @@ fn put_step(text: &mut Vec<u8>, given: &Option<List<Line>>) -> Result<(), NoMemo
     }
 }
 
-/// Puts the ports of a unit, which come last among its lists.
+/// Appends the ports of a unit, which come last among its lists.
 #[tactic(auto, using(crate::proofs::GrowingTexts::unit_parts_append))]
 fn ports(text: &mut Vec<u8>, unit: &Unit) -> Result<(), NoMemory>
     ensures { OnOk result (text.new.items ≡ with_unit_parts (with_unit_parts (with_unit_parts (with_unit_parts text.old.items
@@ -124,7 +124,7 @@ fn ports(text: &mut Vec<u8>, unit: &Unit) -> Result<(), NoMemory>
     events_out(text, unit.events_out.as_slice())
 }
 
-/// Puts what stands in a unit.
+/// Appends the lines in a unit.
 #[tactic(auto, using(crate::proofs::GrowingTexts::unit_is))]
 fn unit_body(text: &mut Vec<u8>, unit: &Unit) -> Result<(), NoMemory>
     ensures { OnOk result (text.new.items ≡ with_unit_parts text.old.items (unit_parts unit.now)) }
@@ -237,7 +237,7 @@ fn put_rows(text: &mut Vec<u8>, given: Option<u32>) -> Result<(), NoMemory>
     }
 }
 
-/// Puts the limits of a run.
+/// Appends the limits of a run.
 fn limits(text: &mut Vec<u8>, system: &System) -> Result<(), NoMemory>
     ensures { OnOk result (text.new.items ≡ with_parts (with_parts (with_parts (with_parts text.old.items
         (optional parts.Stop system.now.stop)) (optional parts.Longest system.now.longest)) (optional parts.Zero system.now.zero)) (optional parts.Rows system.now.rows)) }
@@ -248,7 +248,7 @@ fn limits(text: &mut Vec<u8>, system: &System) -> Result<(), NoMemory>
     put_rows(text, system.rows)
 }
 
-/// Puts the canonical text of a system in an empty text.
+/// Appends the canonical text of a system to an empty text.
 #[tactic(auto, using(crate::proofs::GrowingTexts::system_is))]
 fn whole_system(text: &mut Vec<u8>, system: &System) -> Result<(), NoMemory>
     requires { text.old.items ≡ [] }
@@ -262,7 +262,7 @@ fn whole_system(text: &mut Vec<u8>, system: &System) -> Result<(), NoMemory>
     samples(text, system.samples.as_slice())
 }
 
-/// Prints into an empty text. After want of memory it is empty again.
+/// Prints into an empty text. Where there is no memory, it is empty again.
 fn print_alone(system: &System, out: &mut Vec<u8>) -> Result<(), NoMemory>
     requires { out.old.items ≡ [] }
     ensures ok { OnOk result (out.new.items ≡ canonical_text system.now) }
@@ -275,7 +275,7 @@ fn print_alone(system: &System, out: &mut Vec<u8>) -> Result<(), NoMemory>
     printed
 }
 
-/// Prints behind a text, by way of a text of its own. After want of memory nothing is behind it.
+/// Prints after a text, by way of a text of its own. Where there is no memory, nothing is added.
 fn print_behind(alloc: Global, system: &System, out: &mut Vec<u8>) -> Result<(), NoMemory>
     ensures ok { OnOk result (out.new.items ≡ out.old.items ++ canonical_text system.now) }
     ensures err { OnErr result (out.new.items ≡ out.old.items) }
@@ -286,11 +286,11 @@ fn print_behind(alloc: Global, system: &System, out: &mut Vec<u8>) -> Result<(),
     Ok(())
 }
 
-/// Appends the canonical text of a system: the one text that is printed of it, in either version of the language.
+/// Appends the canonical text of a system: the one text that is printed for it, in either version of the language.
 ///
-/// Every system is printed, but only a printable one is read back as itself, and only its text keeps the limits of the
-/// language. Where `out` is empty, its growth alone takes memory; else the text is made apart and then appended. After
-/// want of memory `out` is as before.
+/// Every system is printed. But only a printable one is read back as itself, and only its text is within the limits of
+/// the language. Where `out` is empty, only its growth takes memory; else the text is made apart and then appended.
+/// Where there is no memory, `out` is unchanged.
 pub fn print_system(alloc: Global, system: &System, out: &mut Vec<u8>) -> Result<(), NoMemory>
     ensures ok { OnOk result (out.new.items ≡ out.old.items ++ canonical_text system.now) }
     ensures err { OnErr result (out.new.items ≡ out.old.items) }

@@ -8,7 +8,7 @@ use crate::lines::{accept, assign, end, head_of_else, head_of_if, repeat};
 use fixed_words::NoMemory;
 use unit_tree::Line;
 
-/// Puts a line of a step, with the lines of its block.
+/// Appends a line of a step, with the lines of its block.
 #[cycle(step)]
 #[tactic(auto, using(crate::proofs::GrowingTexts::lines_append, crate::proofs::GrowingTexts::joined_are))]
 fn step_line(text: &mut Vec<u8>, line: &Line) -> Result<(), NoMemory>
@@ -36,7 +36,7 @@ fn step_line(text: &mut Vec<u8>, line: &Line) -> Result<(), NoMemory>
     }
 }
 
-/// Puts `else` and the lines of its block.
+/// Appends `else` and the lines of its block.
 #[cycle(step)]
 #[tactic(auto, using(crate::proofs::GrowingTexts::joined_are))]
 fn otherwise(text: &mut Vec<u8>, lines: &[Line]) -> Result<(), NoMemory>
@@ -46,7 +46,7 @@ fn otherwise(text: &mut Vec<u8>, lines: &[Line]) -> Result<(), NoMemory>
     step_lines(text, lines)
 }
 
-/// Puts lines of a step.
+/// Appends lines of a step.
 #[cycle(step)]
 pub(crate) fn step_lines(text: &mut Vec<u8>, lines: &[Line]) -> Result<(), NoMemory>
     ensures { OnOk result (text.new.items ≡ with_step_lines text.old.items lines.now) }

@@ -1,4 +1,5 @@
-//! Tokens, put behind a text with a space exactly where letters, digits or `_` would meet.
+//! Tokens, appended to a text with a space exactly where letters, digits or `_` would be next to
+//! each other.
 ghost use Rattle.std.specs.Prelude.{◌≡◌, ◌++◌, ◌<◌, ◌≤◌, ◌∷◌, [], length, replicate, decimal, if◌then◌else◌, IfOk, OnOk};
 ghost use Rattle.fixed_words.specs.Texts.{fixed_text, padded, pointed_before};
 ghost use Rattle.unit_tree.specs.Canonical.{ends_in_word, spaced};
@@ -20,7 +21,7 @@ fn ends_in_word(text: &[u8]) -> bool
     }
 }
 
-/// Puts bytes behind a text.
+/// Appends bytes to a text.
 fn put(text: &mut Vec<u8>, bytes: &[u8]) -> Result<(), NoMemory>
     ensures { OnOk result (text.new.items ≡ spaced text.old.items bytes.now) }
 {
@@ -52,7 +53,7 @@ pub(crate) fn name(text: &mut Vec<u8>, name: &[u8]) -> Result<(), NoMemory>
     put(text, name)
 }
 
-/// Puts zeros behind a text.
+/// Appends zeros to a text.
 fn zeros(text: &mut Vec<u8>, count: usize) -> Result<(), NoMemory>
     ensures { OnOk result (text.new.items ≡ text.old.items ++ replicate count 48) }
 {
@@ -62,7 +63,7 @@ fn zeros(text: &mut Vec<u8>, count: usize) -> Result<(), NoMemory>
     Ok(())
 }
 
-/// Puts digits of which all are decimals behind a text, with zeros in front.
+/// Appends digits of which all are decimals, with zeros before them.
 fn below_one(text: &mut Vec<u8>, digits: &[u8], decimals: usize) -> Result<(), NoMemory>
     requires all_decimals { length digits.now ≤ decimals }
     requires some_decimals { 0 < decimals }
@@ -74,7 +75,7 @@ fn below_one(text: &mut Vec<u8>, digits: &[u8], decimals: usize) -> Result<(), N
     Ok(())
 }
 
-/// Puts digits of which some stand before the point behind a text.
+/// Appends digits of which some are before the point.
 fn from_one(text: &mut Vec<u8>, digits: &[u8], decimals: usize) -> Result<(), NoMemory>
     requires { decimals < length digits.now }
     ensures { OnOk result (text.new.items ≡ text.old.items ++ pointed_before decimals (padded decimals digits.now)) }
@@ -88,7 +89,7 @@ fn from_one(text: &mut Vec<u8>, digits: &[u8], decimals: usize) -> Result<(), No
     Ok(())
 }
 
-/// Puts the digits of a number behind a text.
+/// Appends the digits of a number.
 fn digits(text: &mut Vec<u8>, number: u64, decimals: u8) -> Result<(), NoMemory>
     ensures { OnOk result (text.new.items ≡ text.old.items ++ fixed_text decimals number) }
 {
@@ -103,7 +104,7 @@ fn digits(text: &mut Vec<u8>, number: u64, decimals: u8) -> Result<(), NoMemory>
     Ok(())
 }
 
-/// Puts a space behind a text that ends in a letter, a digit or `_`.
+/// Appends a space to a text that ends in a letter, a digit or `_`.
 fn space(text: &mut Vec<u8>) -> Result<(), NoMemory>
     ensures { OnOk result (text.new.items ≡ (if ends_in_word text.old.items then text.old.items ++ (32 ∷ []) else text.old.items)) }
 {
@@ -113,7 +114,7 @@ fn space(text: &mut Vec<u8>) -> Result<(), NoMemory>
     Ok(())
 }
 
-/// Puts a number by all its digits and how many of them stand behind the point.
+/// Appends a number by all its digits and how many of them follow the point.
 #[tactic(auto, using(crate::proofs::GrowingTexts::number_behind), unfolding(crate::specs::Growing::with_token))]
 pub(crate) fn number(text: &mut Vec<u8>, number: u64, decimals: u8) -> Result<(), NoMemory>
     ensures { OnOk result (text.new.items ≡ with_token text.old.items (token.Number number decimals)) }
@@ -122,7 +123,7 @@ pub(crate) fn number(text: &mut Vec<u8>, number: u64, decimals: u8) -> Result<()
     digits(text, number, decimals)
 }
 
-/// Puts a whole number.
+/// Appends a whole number.
 pub(crate) fn whole(text: &mut Vec<u8>, digits: u32) -> Result<(), NoMemory>
     ensures { OnOk result (text.new.items ≡ with_token text.old.items (whole digits)) }
 {

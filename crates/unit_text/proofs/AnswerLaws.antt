@@ -1,4 +1,4 @@
--- Each text says one system, or is refused at one line by one rule.
+-- Each text has one system, or is refused at one line by one rule.
 use Rattle.std.proofs.Common.{◌≡◌, cond, ℕ, suc, ◌<◌, ◌≤◌, Bool, true, false, not, List, [], ◌∷◌, ◌++◌, append_assoc, length, ◌⊎◌, inl, inr, refl, ap, sym}
 use Rattle.std.proofs.Common.{subst, ◌∙◌, arith}
 use Rattle.std.specs.Prelude.{◌&&◌, nat_le, nat_lt, ◌≢◌}
@@ -32,9 +32,9 @@ use Rattle.text_laws.proofs.ReadIsPrintable.{none_written}
 use Rattle.language_laws.proofs.SourceLaws.{version_is}
 use Rattle.list_laws.proofs.Lists.{none_cut}
 
--- ---- A line, whatever it is
+-- ---- Any line
 
--- What a line's bytes tell of it.
+-- What is known of a line by its bytes.
 pub data Seen (line : List ℕ) : Type 0 where
   HasForbidden : has_forbidden_byte line ≡ true → Seen line
   IsLong : has_forbidden_byte line ≡ false → line_limit < length line → Seen line
@@ -65,7 +65,7 @@ broken_at text before line later rule cut written kept broken =
     (subst (λ all. IsLeast all rule before line) (sym cut) broken.is_least)
     (ap (list_all is_blank_line) cut ∙ written))
 
--- A text whose lines are not all blank: one of them is broken first, or they nest.
+-- In a text whose lines are not all blank, one of them is broken first, or they nest.
 pub data Judged (text : List (List ℕ)) : Type 0 where
   Broken : (number rule : ℕ) → IsFirstBroken text number rule → Judged text
   Nests : (nested : Nested) → NestTo text text nested → Judged text
@@ -73,7 +73,7 @@ pub data Judged (text : List (List ℕ)) : Type 0 where
 abbrev Versioned : List (List ℕ) → Type 0
 Versioned text = Decided (BeginsVersion2 text)
 
--- One line more of lines that nest.
+-- One more line after lines that nest.
 pub data OneMore (text before : List (List ℕ)) (line : List ℕ) : Type 0 where
   Stops : (rule : ℕ) → BreaksLeast text before line rule → OneMore text before line
   GoesOn : (next : Nested) → NestTo text (before ++ (line ∷ [])) next → OneMore text before line
@@ -139,7 +139,7 @@ heads (form.Zero count) = IsOther (λ version is. cc)
 heads (form.Rows count) = IsOther (λ version is. cc)
 heads (form.Sample port) = IsOther (λ version is. cc)
 
--- One line more of lines that are blank.
+-- One more line after lines that are blank.
 pub data OneFirst (text before : List (List ℕ)) (line : List ℕ) : Type 0 where
   Stops : (rule : ℕ) → BreaksLeast text before line rule → OneFirst text before line
   StaysBlank : AreBlank text (before ++ (line ∷ [])) → OneFirst text before line
@@ -194,7 +194,7 @@ blanks_are_code (byte ∷ code) blank =
 blank_has_bytes : (line : List ℕ) → is_blank_line line ≡ true → has_forbidden_byte line ≡ false
 blank_has_bytes line blank = ap not (blanks_are_code (code_of line) blank)
 
--- A text of blank lines is refused at line 1: where that is too long, for its length, and else for its header.
+-- A text of blank lines is refused at line 1: for its length if that line is too long, else for its header.
 pub blank_is_refused : (text : List (List ℕ)) → list_all is_blank_line text ≡ true → IsFirstBroken text 1 (blank_rule text)
 blank_is_refused [] blank = record {
   breaks = inr (refl, refl, refl);
@@ -240,7 +240,7 @@ blank_is_refused (line ∷ lines) blank = by_length (nat_lt line_limit (length l
 
 -- ---- The end of a text
 
--- Lines that nest and leave no block open say the system of their parts.
+-- Lines that nest and leave no block open have the system of their parts.
 unfoldable pub ends_whole : (text : List ℕ) (nested : Nested) → size_of text ≤ text_limit → NestTo (source_lines text) (source_lines text) nested
     → nested_forms nested ≡ text_forms nested.version nested.parts → Reads text (system_of nested.version nested.parts)
 ends_whole text nested fits so_far whole = record {
@@ -266,9 +266,9 @@ ends_open lines nested some_written so_far is_open = record {
   is_last = refl;
 }
 
--- ---- A text that says a system breaks no rule
+-- ---- A text that has a system breaks no rule
 
--- Related lists, cut where the second is.
+-- Related lists, split where the second one is.
 record ZipCut {A B : Type 0} (R : A → B → Type 0) (xs : List A) (ys zs : List B) : Type 0 where
   front : List A
   back : List A
@@ -297,7 +297,7 @@ short_at [] line later short =
 short_at (first ∷ before) line later short =
     short_at before line later (and_parts (nat_le (length first) line_limit) (are_short (before ++ (line ∷ later))) short).1
 
--- What the lines of a text have where it says a system.
+-- What is known of the lines of a text that has a system.
 record Says (text : List (List ℕ)) (version : ℕ) (all : List Part) : Type 0 where
   forms : HaveForms text (text_forms version all) text
   placed : are_placed no_lines (text_forms version all) ≡ true
@@ -366,7 +366,7 @@ nothing_broken known text version all says number rule (inr blank) =
 says_of : (text : List ℕ) (system : System) (reads : Reads text system) → Says (source_lines text) system.version reads.parts
 says_of text system reads = record { forms = reads.lines; placed = reads.placed; short = reads.lines_short }
 
--- ---- Each text is answered once
+-- ---- Each text has one result
 
 answered_by : FormsAreKnown → (text : List ℕ) → size_of text ≤ text_limit → Judged (source_lines text) → list_all is_blank_line (source_lines text) ≡ false
     → IsAnswered text

@@ -1,4 +1,4 @@
--- What is answered of a text can be printed.
+-- A system that is read from a text can be printed.
 use Rattle.std.proofs.Common.{ℕ, List, Result, Ok, Err}
 use Rattle.std.specs.Prelude.{IfOk}
 use Rattle.unit_tree.specs.Printable.{IsPrintable}

@@ -1,5 +1,5 @@
--- The draft of a system goes along with what the lines nest to: with each line that may stand it is that of one line
--- more, and where a line may not stand there is none.
+-- The draft of a system agrees with the nesting of the lines: with each line that is allowed it is that of one more
+-- line, and where a line is not allowed there is none.
 use Rattle.std.proofs.Common.{◌≡◌, cond, ℕ, ◌+◌, Bool, true, false, not, List, [], ◌∷◌, ◌++◌, append_assoc, length, Option, Some, None, refl, ap, sym, subst}
 use Rattle.std.proofs.Common.{◌∙◌, arith}
 use Rattle.std.specs.Prelude.{◌&&◌, is_some, nat_lt, reverse, option_and_then}
@@ -43,11 +43,11 @@ open_of (InUnit name inside) = block.Unit (unit_of name inside)
 open_of (InStep name inside inner) = block.Step (unit_of name inside) (step_of inner)
 open_of (InInstance instance) = block.Instance instance
 
--- The system that the whole parts say, and the open block.
+-- The system of the complete parts, and the open block.
 abbrev pub draft_of : Nested → Draft
 draft_of nested = record { system = system_of nested.version nested.parts; block = open_of nested.block }
 
--- ---- Whether a line may stand
+-- ---- Whether a line is allowed
 
 abbrev rules_kept : List Block → Bool → LineForm → Bool
 rules_kept open_before rival some = holds_form open_before some && (not rival && has_room open_before some)
@@ -58,7 +58,7 @@ may_is nested some rival is =
     ap (λ open_before. rules_kept open_before (has_rival (before_next nested) some) some) (blocks_are nested)
     ∙ ap (λ told. rules_kept (blocks_of nested.block) told some) is
 
--- What becomes of the draft of what is nested: it is that of one line more, where the line may stand.
+-- How a line changes the draft of what is nested: it is that of one more line, if the line is allowed.
 abbrev Becomes : Nested → LineForm → Bool → Type 0
 Becomes nested some may = with_form (draft_of nested) some ≡ cond may (Some (draft_of (and_form nested some))) None
 
@@ -74,7 +74,7 @@ plainly : (nested : Nested) (some : LineForm) → has_rival (before_next nested)
     → Becomes nested some (rules_kept (blocks_of nested.block) false some) → Goes nested some
 plainly nested some is becomes = by_rival nested some false is becomes
 
--- What may be said once.
+-- An item that may occur once.
 once_said : {A B : Type 0} (said : Option A) (now : B) → once said now ≡ cond (true && (not (is_some said) && true)) (Some now) None
 once_said (Some said) now = refl
 once_said None now = refl
@@ -83,7 +83,7 @@ mapped_once : {A B C : Type 0} (f : B → C) (said : Option A) (now : B) → opt
 mapped_once f (Some said) now = refl
 mapped_once f None now = refl
 
--- Where nothing was said, it doesn't matter how what is said first is kept.
+-- Where there was no such item before, it doesn't matter how the first one is kept.
 only_once : {A B : Type 0} (said : Option A) (now : A) (keep : Option A → B) → once said (keep (Some now)) ≡ once said (keep (first_said said now))
 only_once (Some said) now keep = refl
 only_once None now keep = refl
@@ -374,7 +374,7 @@ stepping system unit step = record { system = system; block = block.Step unit st
 abbrev at_step : ℕ → List Part → List ℕ → List UnitPart → List Line → List Around → Nested
 at_step version all name inside lines around = in_step_at version all name inside (record { lines = lines; around = around })
 
--- A line that stands in steps alone, and has no rivals.
+-- A line that is allowed only in steps, and has no rivals.
 held_in_step : (nested : Nested) (around : List Around) (room : Bool) (found : Option Draft) (next : Draft)
     → found ≡ cond (true && (not false && room)) (Some next) None
     → found ≡ cond (blocks.in_step (blocks_around around) && (not false && room)) (Some next) None
@@ -509,9 +509,9 @@ step_goes version all name inside lines around none (form.Rows count) =
 step_goes version all name inside lines around none (form.Sample port) =
     refused_in_step (at_step version all name inside lines around) (form.Sample port) refl (in_step around).not_top refl
 
--- ---- Wherever it is
+-- ---- In any block
 
--- In a step its unit has no other one, where all lines may stand.
+-- While a step is read its unit has no other one, if all lines are allowed.
 step_is_only : (version : ℕ) (all : List Part) (name : List ℕ) (inside : List UnitPart) (inner : Inner)
     → are_placed no_lines (nested_forms (in_step_at version all name inside inner)) ≡ true → (unit_of name inside).step ≡ None
 step_is_only version all name inside inner placed = none (unit_of name inside).step refl

@@ -1,4 +1,4 @@
--- The last of a list, as it is taken off.
+-- The last element of a list, as the code takes it off.
 use Rattle.std.proofs.Common.{◌≡◌, ◌<◌, List, [], ◌∷◌, ◌++◌, length, Option, Some, None, refl, ap, ◌∙◌, arith}
 use Rattle.std.specs.Prelude.{◌↔◌, IsSome}
 use Rattle.std.specs.Option.{option_map, option_to_list}

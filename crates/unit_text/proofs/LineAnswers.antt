@@ -1,4 +1,4 @@
--- What is answered of a line that has no form, and of one that is noted.
+-- The result for a line that has no form, and for a line that gets a mark.
 use Rattle.std.proofs.Common.{◌≡◌, ℕ, List, Err, inl, inr, refl}
 use Rattle.unit_tree.specs.declared.line_form.LineForm.{LineForm}
 use Rattle.text_tokens.specs.Scanning.{ReadsAs}

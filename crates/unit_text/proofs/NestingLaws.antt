@@ -1,4 +1,4 @@
--- Lines that may stand behind a header, and the parts that they say: one for one.
+-- Lines that are allowed after a header, and their parts: one for one.
 use Rattle.std.proofs.Common.{◌≡◌, ℕ, true, false, not, List, [], ◌∷◌, ◌++◌, append_assoc, map, Some, None, refl, ap, sym, subst, ◌∙◌}
 use Rattle.std.specs.Prelude.{◌&&◌, IsTrue}
 use Rattle.std.specs.List.{fold, flat_map, list_any}
@@ -34,7 +34,7 @@ use Rattle.unit_text.specs.Nesting.{head_forms, around_forms, open_forms, nested
 
 -- ---- Lines of a step
 
--- A line of a step is one line more of its innermost block.
+-- A line of a step is one more line of its innermost block.
 abbrev IsAdded : Line → Type 0
 IsAdded some =
     (nested : Nested) (name : List ℕ) (unit_parts : List UnitPart) (inner : Inner)
@@ -177,7 +177,7 @@ parts_are_added (part ∷ more) all version =
     ∙ parts_are_added more (all ++ (part ∷ [])) version
     ∙ ap (holding version) (append_assoc all (part ∷ []) more)
 
--- the lines of parts say these parts, and leave no block open
+-- the lines of parts nest to these parts, and leave no block open
 pub parts_are_nested : (version : ℕ) (all : List Part) → nested_by version (flat_map part_forms all) ≡ holding version all
 parts_are_nested version all = parts_are_added all [] version
 
@@ -238,12 +238,12 @@ blocks_are nested =
 
 -- ---- One line more
 
--- A form that may stand in a block, of those that are open there, and is no header.
+-- A form that is allowed in the open block, and is not a header.
 pub record IsHeld (nested : Nested) (some : LineForm) : Type 0 where
   pub held : holds_form (blocks_of nested.block) some ≡ true
   pub no_header : (version : ℕ) → some ≡ form.Header version → ⊥
 
--- The lines of what is nested then are the same and this one.
+-- What is nested then has the same lines and this one.
 abbrev Adds : Nested → LineForm → Type 0
 Adds nested some = nested_forms (and_form nested some) ≡ nested_forms nested ++ (some ∷ [])
 
@@ -372,7 +372,7 @@ in_step_at version all unit inside inner = opened (holding version all) (InStep 
 abbrev pub blocks_around : List Around → List Block
 blocks_around around = map (λ block. block_of block.head) around ++ step_blocks
 
--- A step is none of the other blocks.
+-- A step is not one of the other blocks.
 pub record IsInStep (open_before : List Block) : Type 0 where
   pub not_top : blocks.at_top open_before ≡ false
   pub not_unit : blocks.in_unit open_before ≡ false
@@ -516,9 +516,9 @@ adds_in version all (InInstance instance) some is = instance_adds version all in
 pub adds : (nested : Nested) (some : LineForm) → IsHeld nested some → nested_forms (and_form nested some) ≡ nested_forms nested ++ (some ∷ [])
 adds nested some is = adds_in nested.version nested.parts nested.block some is
 
--- ---- Lines that may stand behind a header
+-- ---- Lines that are allowed after a header
 
--- What the lines of what is nested leave behind them.
+-- What comes before the next line, after the lines of what is nested.
 abbrev pub before_next : Nested → Before
 before_next nested = and_lines no_lines (nested_forms nested)
 
@@ -564,7 +564,7 @@ no_block (InUnit unit inside) is = absurd (cc)
 no_block (InStep unit inside inner) is = absurd (around_is_some inner.around is)
 no_block (InInstance instance) is = absurd (cc)
 
--- the lines behind a header are what they nest to
+-- the lines after a header are those of what they nest to
 pub lines_are_nested : (version : ℕ) (forms : List LineForm) → IsTrue (are_placed no_lines (form.Header version ∷ forms))
     → nested_forms (nested_by version forms) ≡ form.Header version ∷ forms
 lines_are_nested version forms placed =

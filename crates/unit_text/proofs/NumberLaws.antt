@@ -1,5 +1,5 @@
--- The numbers of the lines of a text, collected line by line, are those of what the lines nest to; of a whole text they
--- stand in canonical order.
+-- The numbers of the lines of a text, collected line by line, are those of what the lines nest to. For a whole text
+-- they are in canonical order.
 use Rattle.std.proofs.Common.{◌≡◌, ℕ, ◌+◌, ◌≤◌, ◌==◌, Bool, true, false, List, [], ◌∷◌, ◌++◌, append_assoc, length, take, drop, map, Option, Some, None, refl}
 use Rattle.std.proofs.Common.{ap, sym, ◌∙◌, arith}
 use Rattle.std.specs.Prelude.{if◌then◌else◌}
@@ -25,11 +25,11 @@ use Rattle.unit_text.proofs.NestingLaws.{IsHeld, adds}
 
 -- ---- Numbers by rank
 
--- Numbers of one kind, with those of a part behind them where it is of that kind.
+-- Numbers of one kind, with those of a part after them if it is of that kind.
 abbrev with_ranked : ℕ → ℕ → List ℕ → List ℕ → List ℕ
 with_ranked asked rank so_far own = if rank == asked then so_far ++ own else so_far
 
--- The numbers of a unit with those of a part more.
+-- The numbers of a unit, with those of one more part.
 abbrev pub with_unit_piece : UnitNumbers → ℕ × List ℕ → UnitNumbers
 with_unit_piece unit piece = record {
   head = unit.head;
@@ -45,7 +45,7 @@ with_unit_piece unit piece = record {
   step = with_ranked 9 piece.0 unit.step piece.1;
 }
 
--- The numbers of a text with those of a part more.
+-- The numbers of a text, with those of one more part.
 abbrev pub with_piece : Numbers → ℕ × List ℕ → Numbers
 with_piece numbers piece = record {
   header = numbers.header;
@@ -60,7 +60,7 @@ with_piece numbers piece = record {
   unit = numbers.unit;
 }
 
--- ---- Numbers that go along with the lines of parts
+-- ---- Lists of numbers, one for each line of parts
 
 -- The numbers of each part of a unit, with its rank.
 abbrev pub unit_pieces : List UnitPart → List ℕ → List (ℕ × List ℕ)
@@ -70,7 +70,7 @@ unit_pieces inside lines = each_ranked unit_part_rank (λ part. length (unit_par
 abbrev pub text_pieces : List Part → List ℕ → List (ℕ × List ℕ)
 text_pieces all lines = each_ranked part_rank (λ part. length (part_forms part)) part_lines_in_order all lines
 
--- The numbers of the parts of a unit, behind that of its first line.
+-- The numbers of the parts of a unit, after that of its first line.
 abbrev pub unit_numbers : List ℕ → List UnitPart → List ℕ → UnitNumbers
 unit_numbers head inside lines = fold with_unit_piece (record no_unit_numbers { head = head }) (unit_pieces inside lines)
 
@@ -89,7 +89,7 @@ header_numbers header = record {
   unit = no_unit_numbers;
 }
 
--- The numbers of the parts of a text that are whole, behind that of the header.
+-- The numbers of the complete parts of a text, after that of the header.
 abbrev pub part_numbers : List ℕ → List Part → List ℕ → Numbers
 part_numbers header all lines = fold with_piece (header_numbers header) (text_pieces all lines)
 
@@ -101,7 +101,7 @@ with_step_lines unit lines = record unit { step = unit.step ++ lines }
 abbrev unit_size : List UnitPart → ℕ
 unit_size inside = length (flat_map unit_part_forms inside)
 
--- The same of the parts of a text.
+-- The same for the parts of a text.
 abbrev text_size : List Part → ℕ
 text_size all = length (flat_map part_forms all)
 
@@ -120,7 +120,7 @@ numbers_of nested numbers =
 
 -- ---- Numbers along parts
 
--- More parts go along with what is behind the lines of the others.
+-- More parts use what follows the lines of the others.
 each_more : {P : Type 0} (rank : P → ℕ) (forms : P → List LineForm) (own : P → List ℕ → List ℕ) (all more : List P) (lines : List ℕ)
     → each_ranked rank (λ part. length (forms part)) own (all ++ more) lines
     ≡ each_ranked rank (λ part. length (forms part)) own all lines
@@ -136,7 +136,7 @@ each_more rank forms own (part ∷ all) more lines =
     ∙ ap (λ rest. each_ranked rank (λ p. length (forms p)) own all (drop size lines) ++ each_ranked rank (λ p. length (forms p)) own more rest) behind
     )
 
--- What is behind the lines of the parts changes nothing.
+-- What follows the lines of the parts changes nothing.
 each_extra : {P : Type 0} (rank : P → ℕ) (forms : P → List LineForm) (own : P → List ℕ → List ℕ) (all : List P) (lines extra : List ℕ)
     → length (flat_map forms all) ≤ length lines
     → each_ranked rank (λ part. length (forms part)) own all (lines ++ extra) ≡ each_ranked rank (λ part. length (forms part)) own all lines
@@ -151,7 +151,7 @@ each_extra rank forms own (part ∷ all) lines extra enough =
     ∙ ap (λ dropped. (rank part, own part (take size lines)) ∷ each_ranked rank (λ p. length (forms p)) own all dropped) (drop-append-le size lines extra long)
     ∙ ap (λ pieces. (rank part, own part (take size lines)) ∷ pieces) (each_extra rank forms own all (drop size lines) extra rest)
 
--- One part more, whose lines are all that is behind those of the others.
+-- One more part, whose lines are all that follows those of the others.
 each_one : {P : Type 0} (rank : P → ℕ) (forms : P → List LineForm) (own : P → List ℕ → List ℕ) (all : List P) (part : P) (lines extra : List ℕ)
     → length (flat_map forms all) ≤ length lines → length (drop (length (flat_map forms all)) lines ++ extra) ≡ length (forms part)
     → each_ranked rank (λ part. length (forms part)) own (all ++ (part ∷ [])) (lines ++ extra)
@@ -169,13 +169,13 @@ each_one rank forms own all part lines extra enough same =
 
 -- ---- Of each kind
 
--- What is collected of a part stands in front of what the later ones have of the kind.
+-- The numbers of a part are before those of the later parts of the kind.
 ranked_behind : (asked : ℕ) (piece : ℕ × List ℕ) (test : Bool) (so_far : List ℕ) (pieces : List (ℕ × List ℕ)) → (piece.0 == asked) ≡ test
     → with_ranked asked piece.0 so_far piece.1 ++ of_rank pieces asked ≡ so_far ++ of_rank (piece ∷ pieces) asked
 ranked_behind asked piece true so_far pieces is = rw is (append_assoc so_far piece.1 (of_rank pieces asked))
 ranked_behind asked piece false so_far pieces is = rw is refl
 
--- What is collected of one kind are the numbers of its rank.
+-- The numbers of one kind are those of its rank.
 kind_is : {A : Type 0} (more : A → ℕ × List ℕ → A) (kind : A → List ℕ) (asked : ℕ)
     → ((so_far : A) (piece : ℕ × List ℕ) → kind (more so_far piece) ≡ with_ranked asked piece.0 (kind so_far) piece.1)
     → (pieces : List (ℕ × List ℕ)) (so_far : A) → kind (fold more so_far pieces) ≡ kind so_far ++ of_rank pieces asked
@@ -185,23 +185,23 @@ kind_is more kind asked law (piece ∷ pieces) so_far =
     ∙ ap (λ numbers. numbers ++ of_rank pieces asked) (law so_far piece)
     ∙ ranked_behind asked piece (piece.0 == asked) (kind so_far) pieces refl
 
--- What parts don't change stays the same.
+-- Numbers that parts don't change are unchanged.
 stays : {A B : Type 0} (more : A → ℕ × List ℕ → A) (kind : A → B) → ((so_far : A) (piece : ℕ × List ℕ) → kind (more so_far piece) ≡ kind so_far)
     → (pieces : List (ℕ × List ℕ)) (so_far : A) → kind (fold more so_far pieces) ≡ kind so_far
 stays more kind law [] so_far = refl
 stays more kind law (piece ∷ pieces) so_far = stays more kind law pieces (more so_far piece) ∙ law so_far piece
 
--- Lists that are joined, with equal ones in their places.
+-- Joined lists are equal where their pieces are.
 eleven_lists : {a b c d e f g h i j k a' b' c' d' e' f' g' h' i' j' k' : List ℕ} → a ≡ a' → b ≡ b' → c ≡ c' → d ≡ d' → e ≡ e' → f ≡ f' → g ≡ g' → h ≡ h'
     → i ≡ i' → j ≡ j' → k ≡ k' → joined (a ∷ b ∷ c ∷ d ∷ e ∷ f ∷ g ∷ h ∷ i ∷ j ∷ k ∷ []) ≡ joined (a' ∷ b' ∷ c' ∷ d' ∷ e' ∷ f' ∷ g' ∷ h' ∷ i' ∷ j' ∷ k' ∷ [])
 eleven_lists pa pb pc pd pe pf pg ph pi pj pk = rw (pa, pb, pc, pd, pe, pf, pg, ph, pi, pj, pk) refl
 
--- The same of nine lists.
+-- The same for nine lists.
 nine_lists : {a b c d e f g h i a' b' c' d' e' f' g' h' i' : List ℕ} → a ≡ a' → b ≡ b' → c ≡ c' → d ≡ d' → e ≡ e' → f ≡ f' → g ≡ g' → h ≡ h' → i ≡ i'
     → joined (a ∷ b ∷ c ∷ d ∷ e ∷ f ∷ g ∷ h ∷ i ∷ []) ≡ joined (a' ∷ b' ∷ c' ∷ d' ∷ e' ∷ f' ∷ g' ∷ h' ∷ i' ∷ [])
 nine_lists pa pb pc pd pe pf pg ph pi = rw (pa, pb, pc, pd, pe, pf, pg, ph, pi) refl
 
--- The numbers of a unit are put into canonical order.
+-- The numbers of a unit, sorted into canonical order.
 unit_order : (head : List ℕ) (inside : List UnitPart) (lines : List ℕ)
     → unit_in_order (unit_numbers head inside lines) ≡ head ++ unit_lines_in_order inside lines
 unit_order head inside lines =
@@ -222,7 +222,7 @@ unit_order head inside lines =
 
 -- ---- A whole text
 
--- Where no block is open, the numbers stand in canonical order.
+-- If no block is open, the numbers are in canonical order.
 pub numbers_end : (nested : Nested) (numbers : List ℕ) → nested.block ≡ AtTop → in_order (numbers_of nested numbers) ≡ in_canonical_order nested.parts numbers
 numbers_end nested numbers is =
     let pieces = text_pieces nested.parts (drop 1 numbers) in
@@ -257,7 +257,7 @@ unit_part_more inside part head lines extra enough same =
     ap (fold with_unit_piece none) (each_one unit_part_rank unit_part_forms (λ part own. own) inside part lines extra enough same)
     ∙ fold-append with_unit_piece none (unit_pieces inside lines) ((unit_part_rank part, drop (unit_size inside) lines ++ extra) ∷ [])
 
--- Lines behind the parts of the open unit don't change what they say.
+-- Lines after the parts of the open unit don't change the numbers of these parts.
 unit_extra : (inside : List UnitPart) (head lines extra : List ℕ) → unit_size inside ≤ length lines
     → unit_numbers head inside (lines ++ extra) ≡ unit_numbers head inside lines
 unit_extra inside head lines extra enough =
@@ -268,7 +268,7 @@ record GoesAlong (nested : Nested) (rest : List ℕ) : Type 0 where
   enough : text_size nested.parts ≤ length rest
   behind : length (drop (text_size nested.parts) rest) ≡ length (open_forms nested.block)
 
--- A list of as many numbers goes along with the parts and the open block.
+-- A list with this many numbers has one for each line of the parts and the open block.
 goes_along : (nested : Nested) (header : ℕ) (rest : List ℕ) → length (header ∷ rest) ≡ length (nested_forms nested) → GoesAlong nested rest
 goes_along nested header rest same =
     let long = length-append (flat_map part_forms nested.parts) (open_forms nested.block) in
@@ -277,15 +277,15 @@ goes_along nested header rest same =
       behind = omega (arith, same, long, length-drop (text_size nested.parts) rest);
     }
 
--- The parts of a text that are whole, and the block behind them.
+-- The complete parts of a text, and the block after them.
 abbrev holding : ℕ → List Part → Open → Nested
 holding version all block = record { version = version; parts = all; block = block }
 
--- The parts that are whole, with the numbers of their lines.
+-- The complete parts, with the numbers of their lines.
 abbrev whole_numbers : ℕ → List Part → List ℕ → Numbers
 whole_numbers header all rest = part_numbers (header ∷ []) all rest
 
--- Another block is open behind the same parts.
+-- Another block is open after the same parts.
 block_more : (version : ℕ) (all : List Part) (block : Open) (header number : ℕ) (rest : List ℕ) → text_size all ≤ length rest
     → numbers_of (holding version all block) (header ∷ rest ++ (number ∷ []))
     ≡ with_open (whole_numbers header all rest) block (drop (text_size all) rest ++ (number ∷ []))
@@ -304,13 +304,13 @@ part_more version all part header number rest enough same =
     ∙ fold-append with_piece (header_numbers (header ∷ [])) (text_pieces all rest)
     ((part_rank part, part_lines_in_order part (drop (text_size all) rest ++ (number ∷ []))) ∷ [])
 
--- No unit is open behind parts.
+-- No unit is open after parts.
 no_unit : (header : ℕ) (all : List Part) (rest : List ℕ) → (whole_numbers header all rest).unit ≡ no_unit_numbers
 no_unit header all rest = stays with_piece (λ numbers. numbers.unit) (λ numbers piece. refl) (text_pieces all rest) (header_numbers (header ∷ []))
 
 -- ---- One line more: outside blocks
 
--- Where the line is collected, by what the numbers of the others are.
+-- The number of a line is added, given the numbers of the other lines.
 abbrev IsCollected : Nested → LineForm → Type 0
 IsCollected nested some =
     (header number : ℕ) (rest : List ℕ) → GoesAlong nested rest
@@ -333,7 +333,7 @@ block_begins version all block header number rest along =
     block_more version all block header number rest along.enough
     ∙ ap (λ behind. with_open (whole_numbers header all rest) block (behind ++ (number ∷ []))) (nil_from_length (drop (text_size all) rest) along.behind)
 
--- A line outside blocks is collected.
+-- The number of a line outside blocks is added.
 top_more : (version : ℕ) (all : List Part) (some : LineForm) → IsHeld (holding version all AtTop) some → IsCollected (holding version all AtTop) some
 top_more version all (form.Header other) is header number rest along = absurd (is.no_header other refl)
 top_more version all (form.Unit name) is header number rest along =
@@ -373,16 +373,16 @@ first_stays : {A : Type 0} (of : List ℕ → List ℕ → A) (lines extra : Lis
 first_stays of [] extra long = absurd (omega arith)
 first_stays of (first ∷ lines) extra long = refl
 
--- The numbers behind the parts that are whole are that of a unit's first line, those of its parts, and others.
+-- The numbers after the complete parts are that of a unit's first line, those of its parts, and others.
 record HoldUnit (inside : List UnitPart) (behind : List ℕ) : Type 0 where
   long : 1 ≤ length behind
   enough : unit_size inside ≤ length (drop 1 behind)
 
--- The unit that is open, as its parts so far say it.
+-- The numbers of the open unit, by its parts so far.
 abbrev open_unit : List UnitPart → List ℕ → UnitNumbers
 open_unit inside behind = unit_numbers (take 1 behind) inside (drop 1 behind)
 
--- The numbers behind its parts.
+-- The numbers after its parts.
 abbrev behind_parts : List UnitPart → List ℕ → List ℕ
 behind_parts inside behind = drop (unit_size inside) (drop 1 behind)
 
@@ -427,7 +427,7 @@ unit_holds version all name inside rest along =
     let same = along.behind in
     record { long = omega (arith, same); enough = omega (arith, same, length-drop 1 (drop (text_size all) rest)) }
 
--- Between the parts of an open unit no line is left over.
+-- Between the parts of an open unit there is no other line.
 nothing_behind : (version : ℕ) (all : List Part) (name : List ℕ) (inside : List UnitPart) (rest : List ℕ)
     → GoesAlong (holding version all (InUnit name inside)) rest → behind_parts inside (drop (text_size all) rest) ≡ []
 nothing_behind version all name inside rest along =
@@ -470,13 +470,13 @@ ended_order name inside number behind hold none =
     (drop-append-le (unit_size inside) lines (number ∷ []) hold.enough ∙ ap (λ end. end ++ (number ∷ [])) none)
     ∙ ap (λ all. all ++ (number ∷ [])) (sym (unit_order head inside lines))
 
--- A unit that ends has the lines behind the whole parts, and its `end`.
+-- A unit that ends has the lines after the complete parts, and its `end`.
 ended_length : (name : List ℕ) (inside : List UnitPart) (number : ℕ) (behind : List ℕ) → length behind ≡ length (open_forms (InUnit name inside))
     → length (behind ++ (number ∷ [])) ≡ length (part_forms (parts.HasUnit name inside))
 ended_length name inside number behind same =
     omega (arith, same, length-append behind (number ∷ []), length-append (flat_map unit_part_forms inside) (form.End ∷ []))
 
--- The `end` of a unit is collected.
+-- The number of the `end` of a unit is added.
 unit_ends : (version : ℕ) (all : List Part) (name : List ℕ) (inside : List UnitPart) (header number : ℕ) (rest : List ℕ)
     → GoesAlong (holding version all (InUnit name inside)) rest
     → unit_end (with_unit (whole_numbers header all rest) (open_unit inside (drop (text_size all) rest))) number
@@ -491,7 +491,7 @@ unit_ends version all name inside header number rest along =
     (sym (no_unit header all rest))
     ∙ sym (part_more version all (parts.HasUnit name inside) header number rest along.enough (ended_length name inside number behind along.behind))
 
--- A line in a unit is collected.
+-- The number of a line in a unit is added.
 unit_more : (version : ℕ) (all : List Part) (name : List ℕ) (inside : List UnitPart) (some : LineForm)
     → IsHeld (holding version all (InUnit name inside)) some → IsCollected (holding version all (InUnit name inside)) some
 unit_more version all name inside (form.Header other) is header number rest along = absurd (is.no_header other refl)
@@ -541,7 +541,7 @@ step_holds version all name inside inner rest along =
     let long = length-append (flat_map unit_part_forms inside) (form.Step ∷ around_forms inner.around ++ flat_map line_forms inner.lines) in
     record { long = omega (arith, same, long); enough = omega (arith, same, long, length-drop 1 (drop (text_size all) rest)) }
 
--- The lines of a step that ends are those behind the parts, and this one.
+-- The lines of a step that ends are those after the parts, and this one.
 step_lines_count : (version : ℕ) (all : List Part) (name : List ℕ) (inside : List UnitPart) (inner : Inner) (some : LineForm) (number : ℕ) (rest : List ℕ)
     → GoesAlong (holding version all (InStep name inside inner)) rest
     → nested_forms (holding version all (InUnit name (inside ++ (parts.Step inner.lines ∷ []))))
@@ -575,7 +575,7 @@ step_lines_count version all name inside inner some number rest along grows =
       length-drop (unit_size inside) (drop 1 behind),
     )
 
--- A line in a step is collected, be it one more of its lines or its `end`.
+-- The number of a line in a step is added, one more of its lines or its `end`.
 step_more_by : (version : ℕ) (all : List Part) (name : List ℕ) (inside : List UnitPart) (inner : Inner) (some : LineForm) (next : Option Inner)
     → nested_forms (nesting.in_step (holding version all (InStep name inside inner)) name inside inner.lines next)
     ≡ nested_forms (holding version all (InStep name inside inner)) ++ (some ∷ [])
@@ -589,7 +589,7 @@ step_more_by version all name inside inner some None grows header number rest al
     sym (unit_part_ends version all name inside (parts.Step inner.lines) header number rest along.enough (step_holds version all name inside inner rest along)
     (step_lines_count version all name inside inner some number rest along grows))
 
--- A line in a step is collected.
+-- The number of a line in a step is added.
 step_more : (version : ℕ) (all : List Part) (name : List ℕ) (inside : List UnitPart) (inner : Inner) (some : LineForm)
     → IsHeld (holding version all (InStep name inside inner)) some → IsCollected (holding version all (InStep name inside inner)) some
 step_more version all name inside inner some is header number rest along =
@@ -605,7 +605,7 @@ step_more version all name inside inner some is header number rest along =
 abbrev with_instances : Numbers → List ℕ → Numbers
 with_instances numbers lines = record numbers { instances = lines }
 
--- A line of an instance that does not end it is collected.
+-- The number of a line of an instance that does not end it is added.
 instance_goes_on : (version : ℕ) (all : List Part) (instance next : Instance) (header number : ℕ) (rest : List ℕ)
     → GoesAlong (holding version all (InInstance instance)) rest
     → instance_line (numbers_of (holding version all (InInstance instance)) (header ∷ rest)) number
@@ -615,7 +615,7 @@ instance_goes_on version all instance next header number rest along =
     ap (with_instances base) (append_assoc base.instances (drop (text_size all) rest) (number ∷ []))
     ∙ sym (block_more version all (InInstance next) header number rest along.enough)
 
--- The `end` of an instance is collected.
+-- The number of the `end` of an instance is added.
 instance_ends : (version : ℕ) (all : List Part) (instance : Instance) → IsCollected (holding version all (InInstance instance)) form.End
 instance_ends version all instance header number rest along =
     let base = whole_numbers header all rest in
@@ -625,7 +625,7 @@ instance_ends version all instance header number rest along =
     ∙ sym (part_more version all (parts.HasInstance instance) header number rest along.enough
     (omega (arith, same, length-append behind (number ∷ []), length-append (map form.Setting instance.settings) (form.End ∷ []))))
 
--- A line in an instance is collected.
+-- The number of a line in an instance is added.
 instance_more : (version : ℕ) (all : List Part) (instance : Instance) (some : LineForm) → IsHeld (holding version all (InInstance instance)) some
     → IsCollected (holding version all (InInstance instance)) some
 instance_more version all instance (form.Header other) is header number rest along = absurd (is.no_header other refl)
@@ -658,7 +658,7 @@ instance_more version all instance (form.Sample port) is header number rest alon
 
 -- ---- One line more
 
--- A line in any block is collected.
+-- The number of a line in any block is added.
 more_in : (version : ℕ) (all : List Part) (block : Open) (some : LineForm) → IsHeld (holding version all block) some
     → IsCollected (holding version all block) some
 more_in version all AtTop some is = top_more version all some is
@@ -666,14 +666,14 @@ more_in version all (InUnit name inside) some is = unit_more version all name in
 more_in version all (InStep name inside inner) some is = step_more version all name inside inner some is
 more_in version all (InInstance instance) some is = instance_more version all instance some is
 
--- A line that may stand there is collected as one line more of what is nested.
+-- The number of a line that is allowed there is added as that of one more line of what is nested.
 pub numbers_more : (nested : Nested) (some : LineForm) (numbers : List ℕ) (number : ℕ) → IsHeld nested some → length numbers ≡ length (nested_forms nested)
     → with_line (numbers_of nested numbers) (place_of nested.block) some number ≡ numbers_of (and_form nested some) (numbers ++ (number ∷ []))
 numbers_more nested some [] number is same = absurd (omega (arith, same))
 numbers_more nested some (header ∷ rest) number is same =
     more_in nested.version nested.parts nested.block some is header number rest (goes_along nested header rest same)
 
--- The numbers still go along with the lines.
+-- There is still one number for each line.
 pub lengths_more : (nested : Nested) (some : LineForm) (numbers : List ℕ) (number : ℕ) → IsHeld nested some → length numbers ≡ length (nested_forms nested)
     → length (numbers ++ (number ∷ [])) ≡ length (nested_forms (and_form nested some))
 lengths_more nested some numbers number is same =
@@ -681,7 +681,7 @@ lengths_more nested some numbers number is same =
 
 -- ---- Marks
 
--- A mark more is a line more of its group.
+-- One more mark is one more line of its group.
 pub marks_more : (numbers : Numbers) (marks : List Mark) (group : Option Group) (number : ℕ)
     → with_marks numbers (marks ++ marks_of group number) ≡ with_group (with_marks numbers marks) group number
 marks_more numbers marks None number = ap (with_marks numbers) (append-nil marks)

@@ -1,18 +1,18 @@
--- What a part adds to the system, or the unit, that the parts before it say.
+-- What a part adds to the system, or the unit, of the parts before it.
 use Rattle.std.proofs.Common.{◌≡◌, ℕ, List, [], ◌∷◌, ◌++◌, Option, Some, None, refl, ap, ◌∙◌}
 use Rattle.unit_tree.specs.Parts as parts
 use Rattle.unit_tree.specs.Parts.{Part, UnitPart, with_part, with_unit_part, unit_of, system_of}
 use Rattle.unit_tree.specs.declared.system.System.{System}
 use Rattle.unit_tree.specs.declared.unit.Unit.{Unit}
 
--- What was said first of what may be said once.
+-- The first of several items of which only one is kept.
 abbrev pub first_said : {A : Type 0} → Option A → A → Option A
 first_said (Some said) now = Some said
 first_said None now = Some now
 
 -- ---- Systems
 
--- What a part says, behind what the earlier ones say.
+-- The system with one more part, which comes after those that it has.
 abbrev pub with_last : Part → System → System
 with_last (parts.HasUnit name inside) system = record system { units = system.units ++ (unit_of name inside ∷ []) }
 with_last (parts.HasInstance instance) system = record system { instances = system.instances ++ (instance ∷ []) }

@@ -1,4 +1,4 @@
--- Reading goes along the lines as the definitions of texts have it.
+-- The code reads the lines as the definitions of texts state.
 use Rattle.std.proofs.Common.{◌≡◌, cond, ℕ, suc, ◌+◌, ◌<◌, ◌≤◌, Bool, true, false, List, [], ◌∷◌, ◌++◌, append_assoc, map, length, Option, Some, None}
 use Rattle.std.proofs.Common.{Result, Ok, Err, ◌⊎◌, inl, inr, refl, ap, sym, subst, ◌∙◌, arith}
 use Rattle.std.specs.Prelude.{◌&&◌, not, IsTrue}
@@ -46,9 +46,9 @@ use Rattle.language_laws.proofs.SourceLaws.{version_is}
 use Rattle.language_laws.proofs.FirstVersion.{old_form}
 use Rattle.list_laws.proofs.Lists.{each_more}
 
--- ---- Cutting lines
+-- ---- Splitting lines
 
--- a line that is cut off a text is its first line
+-- a line that is split off a text is its first line
 pub source_cut : (rest line behind : List ℕ) → lines_of rest ≡ line ∷ lines_of behind → source_lines rest ≡ without_return line ∷ source_lines behind
 source_cut rest line behind cut = ap (map without_return) cut
 
@@ -62,7 +62,7 @@ none_left (byte ∷ rest) is = absurd (omega (arith, is))
 
 -- ---- Before the header
 
--- So many lines of the text are read, all blank.
+-- The lines of the text up to this number are read, and all are blank.
 pub record BlankSoFar (text rest : List ℕ) (number : ℕ) : Type 0 where
   pub before : List (List ℕ)
   pub cut : source_lines text ≡ before ++ source_lines rest
@@ -126,7 +126,7 @@ are_blank text done (one ∷ before) so_far all =
 blank_before : (text before : List (List ℕ)) → AllByRecursion (λ one. IsClean one × (is_blank_line one ≡ true)) before → AreBlank text before
 blank_before text before all = are_blank text [] before (record { kept = tt; short = refl; blank = refl }) all
 
--- The first line that is not blank, as the definitions have it.
+-- The first line that is not blank, by the definitions.
 abbrev first_of : (text line rest : List ℕ) (number : ℕ) (first : FirstAt text line number rest) → IsWritten line → FirstLine (source_lines text)
 first_of text line rest number first is = record {
   before = first.before;
@@ -137,12 +137,12 @@ first_of text line rest number first is = record {
   is_written = is.written;
 }
 
--- What is told of a line's bytes breaks its least rule.
+-- The rule that is found by a line's bytes is the least that the line breaks.
 bytes_least : (text before : List (List ℕ)) (line : List ℕ) (rule : ℕ) → TellsOf line (told.Broken rule) → BreaksLeast text before line rule
 bytes_least text before line rule (inl (is, byte)) = subst (BreaksLeast text before line) (sym is) (bytes_break text before line byte)
 bytes_least text before line rule (inr (is, bytes, long)) = subst (BreaksLeast text before line) (sym is) (length_breaks text before line bytes long)
 
--- A line that breaks a rule, and the least that it breaks, behind lines that break none.
+-- A line that breaks a rule, and the least that it breaks, after lines that break none.
 refused_at : (text : List ℕ) (before : List (List ℕ)) (line : List ℕ) (later : List (List ℕ)) (number rule : ℕ) → size_of text ≤ text_limit
     → list_all is_blank_line (source_lines text) ≡ false → source_lines text ≡ before ++ (line ∷ later) → number ≡ suc (length before)
     → AreUnbroken (source_lines text) [] before → BreaksLeast (source_lines text) before line rule → IsRefused text number rule
@@ -203,7 +203,7 @@ numbers_cut (one ∷ before) line from =
     let same : (from + 1) + length before ≡ from + suc (length before) = omega arith in
     ap (λ rest. (from, one) ∷ rest) (numbers_cut before line (from + 1) ∙ ap (λ number. enumerate_from (from + 1) before ++ ((number, line) ∷ [])) same)
 
--- A line by its number is written; and its number.
+-- A line with a number is not blank, and has its number.
 abbrev is_written : ℕ × List ℕ → Bool
 is_written numbered = not (is_blank_line numbered.1)
 
@@ -243,9 +243,10 @@ none_numbered (line ∷ lines) from blank =
 numbers_blank : (lines : List (List ℕ)) → list_all is_blank_line lines ≡ true → source_numbers.numbers_of lines ≡ []
 numbers_blank lines blank = none_numbered lines 1 blank
 
--- ---- Behind the header
+-- ---- After the header
 
--- So many lines of the text are read, and nest to what the draft and the marks are of.
+-- The lines of the text up to this number are read. The draft and the marks are those of what they
+-- nest to.
 pub record Reached (text rest : List ℕ) (header number : ℕ) (draft : Draft) (marks : List Mark) : Type 0 where
   pub before : List (List ℕ)
   pub nested : Nested
@@ -316,12 +317,12 @@ same_place (InUnit name inside) = refl
 same_place (InStep name inside inner) = refl
 same_place (InInstance instance) = refl
 
--- What a line of a form does to the draft goes along with whether it may stand.
+-- A line of a form gives a draft exactly where it is allowed.
 may_of : (nested : Nested) (some : LineForm) (next : Option Draft) → are_placed no_lines (nested_forms nested) ≡ true
     → with_form (draft_of nested) some ≡ next → next ≡ cond (may_stand (before_next nested) some) (Some (draft_of (and_form nested some))) None
 may_of nested some next placed is = sym is ∙ draft_goes nested some placed
 
--- What comes of a draft with a form, by what the draft becomes.
+-- The result of a draft with a form, by the draft that it becomes.
 abbrev with_own : Option Group → Draft → Draft × Option Group
 with_own own draft = (draft, own)
 
@@ -487,7 +488,8 @@ open_parts nested is none = by_block nested.block is none
     by_block (InStep name inside inner) is none = around_is_some inner.around none
     by_block (InInstance instance) is none = cc
 
--- The system of a text whose lines nest to whole parts, and where its canonical lines came from.
+-- The system of a text whose lines nest to complete parts, and the lines that its canonical lines
+-- came from.
 reads_from : (text : List ℕ) (nested : Nested) (numbers : Numbers) → size_of text ≤ text_limit → NestTo (source_lines text) (source_lines text) nested
     → blocks_of nested.block ≡ [] → numbers ≡ numbers_of nested (source_numbers.numbers_of (source_lines text))
     → ReadsFrom text (system_of nested.version nested.parts) (in_order numbers)
@@ -530,7 +532,7 @@ whole_answer text rest header number draft marks (Err (fault.Line line rule)) fi
     (subst (IsRefused text number) (sym rule_is) (end_refused text rest header number draft marks fits some_written so_far none is))
 whole_answer text rest header number draft marks (Err fault.NoMemory) fits some_written so_far none gives = tt
 
--- ---- Texts without a written line
+-- ---- Texts that have only blank lines
 
 pub blank_refused : (text : List ℕ) → size_of text ≤ text_limit → IsTrue (list_all is_blank_line (source_lines text))
     → IsRefused text 1 (blank_rule (source_lines text))
@@ -539,7 +541,7 @@ blank_refused text fits blank = inr (fits, inl (blank_is_refused (source_lines t
 pub long_refused : (text : List ℕ) → text_limit < size_of text → IsRefused text 1 2
 long_refused text long = inl (long, refl, refl)
 
--- ---- Errors that are handed on
+-- ---- Errors that are passed on
 
 pub header_error : FormsAreKnown → (text : List ℕ) (why : TextFault) (result : Result ReadText TextFault) → size_of text ≤ text_limit
     → list_all is_blank_line (source_lines text) ≡ false → HeaderGives text (Err why) → IsErrAnd result (λ found. found ≡ why) → AnswersText text result

@@ -1,4 +1,4 @@
--- Lines that may stand once: whether one like them was said shows in the system, or the unit, that was said.
+-- Lines that may occur once: the system, or the unit, shows whether one with the same keyword came before.
 use Rattle.std.proofs.Common.{◌≡◌, ℕ, Bool, true, false, List, [], ◌∷◌, ◌++◌, map, Some, None, refl, ap, sym, subst, ◌∙◌}
 use Rattle.std.specs.Prelude.{◌||◌, is_some}
 use Rattle.std.specs.List.{flat_map, list_any}
@@ -26,14 +26,14 @@ use Rattle.language_laws.proofs.OpenBlocks.{all_in_text}
 
 -- ---- Tests that no step line passes
 
--- No step line passes the test, `end` included.
+-- No step line passes the test, also no `end`.
 abbrev IsApart : (LineForm → Bool) → Type 0
 IsApart test = (some : LineForm) → is_step_line some ≡ true → test some ≡ false
 
 none_of_two : (test : LineForm → Bool) (xs ys : List LineForm) → list_any test xs ≡ false → list_any test ys ≡ false → list_any test (xs ++ ys) ≡ false
 none_of_two test xs ys none none_too = list_any-append test xs ys ∙ ap (λ told. told || list_any test ys) none ∙ none_too
 
--- a line in front that does not pass
+-- a first line that does not pass
 none_first : (test : LineForm → Bool) (first : LineForm) (lines : List LineForm) → test first ≡ false → list_any test lines ≡ false
     → list_any test (first ∷ lines) ≡ false
 none_first test first lines is none = ap (λ told. told || list_any test lines) is ∙ none
@@ -91,7 +91,7 @@ none_in_all : {A : Type 0} (test : LineForm → Bool) (forms : A → List LineFo
 none_in_all test forms none [] = refl
 none_in_all test forms none (one ∷ all) = none_of_two test (forms one) (flat_map forms all) (none one) (none_in_all test forms none all)
 
--- the lines of a step, with its own and its `end`
+-- the lines of a step, with its first line and its `end`
 none_in_step : (test : LineForm → Bool) → IsApart test → (lines : List Line) → test form.Step ≡ false
     → list_any test (unit_part_forms (parts.Step lines)) ≡ false
 none_in_step test apart lines step =
@@ -175,7 +175,7 @@ in_unit_stop _ = refl
 of_text_stop : IsOfText is_stop
 of_text_stop = record { apart = apart_stop; unit = λ name. refl; in_unit = in_unit_stop; instance = λ name unit. refl; setting = λ setting. refl }
 
--- a line of the kind is among those of parts exactly where they say so
+-- a line of the kind is among those of parts exactly where their system has it
 stop_in : (version : ℕ) (all : List Part) → list_any is_stop (flat_map part_forms all) ≡ is_some (system_of version all).stop
 stop_in version [] = refl
 stop_in version (parts.HasUnit name inside ∷ all) =
@@ -202,7 +202,7 @@ in_unit_longest _ = refl
 of_text_longest : IsOfText is_longest
 of_text_longest = record { apart = apart_longest; unit = λ name. refl; in_unit = in_unit_longest; instance = λ name unit. refl; setting = λ setting. refl }
 
--- a line of the kind is among those of parts exactly where they say so
+-- a line of the kind is among those of parts exactly where their system has it
 longest_in : (version : ℕ) (all : List Part) → list_any is_longest (flat_map part_forms all) ≡ is_some (system_of version all).longest
 longest_in version [] = refl
 longest_in version (parts.HasUnit name inside ∷ all) =
@@ -230,7 +230,7 @@ in_unit_zero _ = refl
 of_text_zero : IsOfText is_zero
 of_text_zero = record { apart = apart_zero; unit = λ name. refl; in_unit = in_unit_zero; instance = λ name unit. refl; setting = λ setting. refl }
 
--- a line of the kind is among those of parts exactly where they say so
+-- a line of the kind is among those of parts exactly where their system has it
 zero_in : (version : ℕ) (all : List Part) → list_any is_zero (flat_map part_forms all) ≡ is_some (system_of version all).zero
 zero_in version [] = refl
 zero_in version (parts.HasUnit name inside ∷ all) =
@@ -257,7 +257,7 @@ in_unit_rows _ = refl
 of_text_rows : IsOfText is_rows
 of_text_rows = record { apart = apart_rows; unit = λ name. refl; in_unit = in_unit_rows; instance = λ name unit. refl; setting = λ setting. refl }
 
--- a line of the kind is among those of parts exactly where they say so
+-- a line of the kind is among those of parts exactly where their system has it
 rows_in : (version : ℕ) (all : List Part) → list_any is_rows (flat_map part_forms all) ≡ is_some (system_of version all).rows
 rows_in version [] = refl
 rows_in version (parts.HasUnit name inside ∷ all) =
@@ -341,7 +341,7 @@ step_in name (_ ∷ inside) = step_in name inside
 pub step_said : (name : List ℕ) (inside : List UnitPart) → list_any (are_alike form.Step) (flat_map unit_part_forms inside) ≡ is_some (unit_of name inside).step
 step_said name inside = any_alike (are_alike form.Step) is_step like_step (flat_map unit_part_forms inside) ∙ step_in name inside
 
--- ---- What stands before a line
+-- ---- What comes before a line
 
 pub text_before : (lines : List LineForm) → (and_lines no_lines lines).in_text ≡ lines
 text_before lines = all_in_text lines no_lines
@@ -354,7 +354,7 @@ no_unit_inside : (part : UnitPart) → list_any opens_unit (unit_part_forms part
 no_unit_inside (parts.Step lines) = none_in_step opens_unit apart_unit lines refl
 no_unit_inside _ = refl
 
--- Behind the line of a unit, and lines that its parts have.
+-- After the line of a unit, and lines that its parts have.
 pub unit_before : (front : List LineForm) (name : List ℕ) (inside : List UnitPart)
     → (and_lines no_lines (front ++ (form.Unit name ∷ flat_map unit_part_forms inside))).in_unit ≡ flat_map unit_part_forms inside
 unit_before front name inside =

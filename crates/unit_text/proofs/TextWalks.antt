@@ -1,4 +1,4 @@
--- A text along its lines: what its lines so far nest to, while none of them breaks a rule, and the first that does.
+-- A text line by line: what its lines so far nest to, while none of them breaks a rule, and the first that does.
 use Rattle.std.proofs.Common.{◌≡◌, ℕ, ◌<◌, ◌≤◌, Bool, true, false, not, List, [], ◌∷◌, ◌++◌, append_assoc, length, ◌⊎◌, inl, inr, refl, ap, sym, subst, ◌∙◌}
 use Rattle.std.proofs.Common.{arith}
 use Rattle.std.specs.Prelude.{◌&&◌, nat_le}
@@ -29,15 +29,15 @@ is_written line = not (is_blank_line line)
 
 -- ---- Forms of lines are known
 
--- Whether something is so.
+-- Whether a proposition is true.
 abbrev pub Decided : Type 0 → Type 0
 Decided A = A ⊎ (A → ⊥)
 
--- A line has a form, or has none.
+-- It is decided whether a line has a form.
 abbrev pub FormOf : List ℕ → Type 0
 FormOf line = Decided ((some : LineForm) × HasForm some line)
 
--- Each line has one form, or has none.
+-- A line has at most one form, and it is decided whether it has one.
 pub record FormsAreKnown : Type 0 where
   pub form_of : (line : List ℕ) → FormOf line
   pub one : HasOneForm
@@ -234,7 +234,7 @@ forms_blank text before line forms have blank =
 pub blank_have_none : (text lines : List (List ℕ)) → list_all is_blank_line lines ≡ true → HaveForms text [] lines
 blank_have_none text lines blank = subst (AllZip (HasFormIn text) []) (sym (none_written lines blank)) tt
 
--- ---- What lines so far keep
+-- ---- What is known of the lines so far
 
 abbrev pub are_short : List (List ℕ) → Bool
 are_short lines = list_all (λ line. nat_le (length line) line_limit) lines
@@ -286,7 +286,7 @@ short_is line short = grind (arith, nat_tests, short)
 
 -- ---- A blank line
 
--- A blank line breaks no rule but that of its length.
+-- A blank line breaks no rule except that of its length.
 pub blank_unbroken : (text before : List (List ℕ)) (line : List ℕ) → IsClean line → is_blank_line line ≡ true → IsUnbroken text before line
 blank_unbroken text before line clean blank =
     unbroken text before line clean.bytes clean.short
@@ -359,7 +359,7 @@ line_nests known text before line nested some so_far clean has may = record {
 
 -- ---- A line that breaks a rule
 
--- The line breaks the rule, and none that is less.
+-- The line breaks the rule, and no lesser one.
 pub record BreaksLeast (text before : List (List ℕ)) (line : List ℕ) (rule : ℕ) : Type 0 where
   pub breaks : LineBreaks text rule before line
   pub is_least : IsLeast text rule before line

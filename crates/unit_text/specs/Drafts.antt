@@ -1,4 +1,4 @@
--- A system as far as the lines of its text have come, with one line more.
+-- Drafts: the system of the lines of a text that were read so far, and how one more line changes it.
 use Rattle.std.specs.Prelude.{◌≡◌, ⊤, ℕ, Bool, true, false, List, [], ◌∷◌, ◌++◌, length, Option, Some, None, Result, Ok, Err, if◌then◌else◌, nat_lt}
 use Rattle.std.specs.Prelude.{option_and_then}
 use Rattle.std.specs.Option.{option_map}
@@ -48,13 +48,13 @@ in_step system unit step = record { system = system; block = block.Step unit ste
 abbrev pub in_instance : System → Instance → Draft
 in_instance system instance = record { system = system; block = block.Instance instance }
 
--- What is put leads to the new value, or is refused exactly where no value is wanted; want of memory says nothing.
+-- A change gives the new value, or fails exactly where `None` is expected. Without memory it states nothing.
 abbrev pub Puts : {A X : Type 0} → Result A Unread → X → Option X → Type 0
 Puts (Ok done) new wanted = wanted ≡ Some new
 Puts (Err unread.NoForm) new wanted = wanted ≡ None
 Puts (Err unread.NoMemory) new wanted = ⊤
 
--- What may be said once: it is said where nothing was.
+-- An item that may occur once: the new value where there was none before.
 abbrev pub once : {A B : Type 0} → Option A → B → Option B
 once (Some said) now = None
 once None now = Some now
@@ -82,7 +82,7 @@ with_sample system port = record system { samples = system.samples ++ (port ∷ 
 abbrev pub bare_instance : List ℕ → List ℕ → Instance
 bare_instance name unit = record { name = name; unit = unit; settings = [] }
 
--- With a limit, each of which may be told once.
+-- With a limit of the run, each of which may occur once.
 abbrev pub limit_form : System → LineForm → Option System
 limit_form system (form.Stop seconds) = with_stop system seconds
 limit_form system (form.Longest seconds) = with_longest system seconds
@@ -130,7 +130,7 @@ with_event_out unit event = record unit { events_out = unit.events_out ++ (event
 abbrev pub with_max : Unit → Expr → Option Unit
 with_max unit value = once unit.max (record unit { max = Some value })
 
--- The lines of a unit that open no block.
+-- With a line of a unit that opens no block.
 abbrev pub declared_form : Unit → LineForm → Option Unit
 declared_form unit (form.Resolution decimals) = with_resolution unit decimals
 declared_form unit (form.Param param) = Some (with_param unit param)
@@ -176,7 +176,7 @@ instance_form system instance some = option_map (in_instance system) (setting_fo
 
 -- ---- In steps
 
--- The last of a list, behind the others.
+-- The other elements of a nonempty list, and its last one.
 abbrev pub split_from : {A : Type 0} → A → List A → List A × A
 split_from first [] = ([], first)
 split_from first (next ∷ others) = (first ∷ (split_from next others).0, (split_from next others).1)
@@ -188,7 +188,7 @@ split_last (first ∷ others) = Some (split_from first others)
 abbrev pub and_line : StepSoFar → Line → StepSoFar
 and_line step more = record step { lines = step.lines ++ (more ∷ []) }
 
--- A block of `if` or `repeat` that begins, where at most fifteen are open.
+-- The step with an `if` or `repeat` whose block begins, if at most fifteen are open.
 abbrev pub in_block : StepSoFar → Head → Option StepSoFar
 in_block step head =
     if nat_lt (length step.around) block_limit then Some (record { lines = []; around = step.around ++ (record { before = step.lines; head = head } ∷ []) }) else None
@@ -205,7 +205,7 @@ headed (Then cond) lines = line.If cond lines None
 headed (Else cond then_lines) lines = line.If cond then_lines (Some lines)
 headed (Times count) lines = line.Repeat count lines
 
--- Behind the end of the innermost block, which becomes a line of the one around it.
+-- The step after the end of the innermost block, which becomes a line of the block around it.
 abbrev pub behind_block : List Around → Around → List Line → StepSoFar
 behind_block around block lines = record { lines = block.before ++ (headed block.head lines ∷ []); around = around }
 
@@ -216,7 +216,7 @@ ended_by system unit lines (Some split) = in_step system unit (behind_block spli
 abbrev pub ended : System → Unit → StepSoFar → Option Draft
 ended system unit step = Some (ended_by system unit step.lines (split_last step.around))
 
--- The lines of a step that end no block.
+-- The step with a line that ends no block.
 abbrev pub line_in_step : StepSoFar → LineForm → Option StepSoFar
 line_in_step step (form.Assign target value) = Some (and_line step (line.Assign target value))
 line_in_step step (form.Accept value) = Some (and_line step (line.Accept value))
@@ -245,7 +245,7 @@ abbrev pub is_top : OpenBlock → Bool
 is_top block.Top = true
 is_top _ = false
 
--- The system, where no block is open.
+-- The system, if no block is open.
 abbrev pub whole_by : System → OpenBlock → Option System
 whole_by system block = if is_top block then Some system else None
 

@@ -1,4 +1,4 @@
--- Laws of reading: that each text says one system or is refused, and that lines nest by parts.
+-- Laws of reading: each text has one system or is refused, and lines nest as parts.
 use Rattle.std.specs.Prelude.{◌≡◌, ◌⊎◌, ◌↔◌, ℕ, List, [], ◌∷◌, IsTrue}
 use Rattle.unit_tree.specs.Blocks.{no_lines, open_blocks, are_placed}
 use Rattle.unit_tree.specs.Lines.{source_lines}
@@ -8,7 +8,7 @@ use Rattle.unit_tree.specs.declared.line_form.LineForm.{LineForm}
 use Rattle.unit_tree.specs.declared.line_form.LineForm.TheVariants as form
 use Rattle.unit_tree.specs.declared.system.System.{System}
 
--- A text is written with one version and one list of parts at most, and so says one system at most.
+-- A text is written with at most one version and one list of parts, and so has at most one system.
 abbrev pub HasOneReading : List ℕ → Type 0
 HasOneReading text =
     (version by : ℕ) (one other : List Part) → HaveForms (source_lines text) (text_forms version one) (source_lines text)
@@ -17,11 +17,11 @@ HasOneReading text =
 abbrev pub SaysOneSystem : List ℕ → Type 0
 SaysOneSystem text = (one other : System) → Reads text one → Reads text other → one ≡ other
 
--- The text says a system, or it is refused.
+-- The text has a system, or it is refused.
 abbrev pub IsAnswered : List ℕ → Type 0
 IsAnswered text = ((system : System) × Reads text system) ⊎ ((line : ℕ) × (rule : ℕ) × IsRefused text line rule)
 
--- Each text says one system, or is refused at one line by one rule, and not both.
+-- Each text has one system, or is refused at one line by one rule, and not both.
 pub record IsAnsweredOnce (text : List ℕ) : Type 0 where
   pub answered : IsAnswered text
   pub one_reading : HasOneReading text
@@ -31,8 +31,8 @@ pub record IsAnsweredOnce (text : List ℕ) : Type 0 where
 abbrev pub EveryTextIsAnsweredOnce : Type 0
 EveryTextIsAnsweredOnce = (text : List ℕ) → IsAnsweredOnce text
 
--- Lines nest exactly where they are those of parts: the header and lines that may stand behind it, with no block
--- open at the end, are the lines of some parts.
+-- Lines nest exactly where they are those of parts: the header and lines that are allowed after it, with no
+-- block open at the end, are the lines of some parts.
 abbrev pub NestingIsByParts : Type 0
 NestingIsByParts =
     (version : ℕ) (forms : List LineForm) → IsTrue (are_placed no_lines (form.Header version ∷ forms))

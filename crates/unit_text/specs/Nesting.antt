@@ -1,4 +1,4 @@
--- Nesting: the parts of a text as far as its lines have come, and the block that they leave open.
+-- Nesting: the parts of the lines of a text that were read so far, and the block that they leave open.
 use Rattle.std.specs.Prelude.{ℕ, List, [], ◌∷◌, ◌++◌, map, Option, Some, None}
 use Rattle.std.specs.List.{fold, flat_map}
 use Rattle.unit_tree.specs.Blocks as blocks
@@ -17,19 +17,19 @@ use Rattle.unit_text.specs.declared.draft.Head.TheVariants.{Then, Else, Times}
 
 -- ---- What is open
 
--- A step so far: the lines of its innermost block, and the blocks around that, the innermost first.
+-- A step so far: the lines of its innermost block, and the blocks around that one, the innermost first.
 pub record Inner : Type 0 where
   pub lines : List Line
   pub around : List Around
 
--- The open block with what it holds so far.
+-- The open block with its content so far.
 pub data Open : Type 0 where
   AtTop : Open
   InUnit : List ℕ → List UnitPart → Open
   InStep : List ℕ → List UnitPart → Inner → Open
   InInstance : Instance → Open
 
--- The parts of a text that are whole, and the open block behind them.
+-- The complete parts of a text, and the open block after them.
 pub record Nested : Type 0 where
   pub version : ℕ
   pub parts : List Part
@@ -53,7 +53,7 @@ open_forms (InStep name unit_parts inner) =
     form.Unit name ∷ flat_map unit_part_forms unit_parts ++ (form.Step ∷ around_forms inner.around ++ flat_map line_forms inner.lines)
 open_forms (InInstance instance) = form.Instance instance.name instance.unit ∷ map form.Setting instance.settings
 
--- The lines that say it.
+-- Its lines.
 abbrev pub nested_forms : Nested → List LineForm
 nested_forms nested = text_forms nested.version nested.parts ++ open_forms nested.block
 
@@ -65,7 +65,8 @@ and_part nested part = record nested { parts = nested.parts ++ (part ∷ []); bl
 abbrev pub opened : Nested → Open → Nested
 opened nested block = record nested { block = block }
 
--- A line at the top. One that may not stand there changes nothing, as below.
+-- With a line at the top. A line that is not allowed there changes nothing; so it is in the definitions
+-- below.
 abbrev pub at_top : Nested → LineForm → Nested
 at_top nested (form.Unit name) = opened nested (InUnit name [])
 at_top nested (form.Instance name unit) = opened nested (InInstance (record { name = name; unit = unit; settings = [] }))
@@ -100,7 +101,7 @@ and_line inner more = record inner { lines = inner.lines ++ (more ∷ []) }
 abbrev pub block_in : Inner → Head → Inner
 block_in inner head = record { lines = []; around = record { before = inner.lines; head = head } ∷ inner.around }
 
--- `else`, which ends the lines behind an `if` and begins others.
+-- `else`, which ends the lines after an `if` and begins others.
 abbrev pub turned : List Line → List Around → List Around
 turned lines [] = []
 turned lines (block ∷ others) = turned_by block.head
@@ -109,12 +110,12 @@ turned lines (block ∷ others) = turned_by block.head
     turned_by (Then cond) = record { before = block.before; head = Else cond lines } ∷ others
     turned_by head = block ∷ others
 
--- `end`: the innermost block becomes a line of the one around it; there is none where the step itself ends.
+-- `end`: the innermost block becomes a line of the block around it. `None` where the step itself ends.
 abbrev pub ended : List Line → List Around → Option Inner
 ended lines [] = None
 ended lines (block ∷ others) = Some (record { lines = block.before ++ (headed block.head lines ∷ []); around = others })
 
--- A step with one line more; there is none where the line ends it.
+-- A step with one more line. `None` where the line ends it.
 abbrev pub and_step_form : Inner → LineForm → Option Inner
 and_step_form inner (form.Assign target value) = Some (and_line inner (line.Assign target value))
 and_step_form inner (form.Accept value) = Some (and_line inner (line.Accept value))
@@ -148,7 +149,7 @@ and_form nested some = and_form_in nested nested.block some
 abbrev pub headed_by : ℕ → Nested
 headed_by version = record { version = version; parts = []; block = AtTop }
 
--- What lines behind the header of a version say.
+-- The nesting of lines after the header of a version.
 abbrev pub nested_by : ℕ → List LineForm → Nested
 nested_by version forms = fold and_form (headed_by version) forms
 

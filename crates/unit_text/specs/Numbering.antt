@@ -1,4 +1,4 @@
--- The numbers of the lines of a text, group by group, as far as its lines have come.
+-- The numbers of the lines of a text that were read so far, by groups.
 use Rattle.std.specs.Prelude.{ℕ, List, [], ◌∷◌, ◌++◌, Option, Some, None}
 use Rattle.std.specs.Borrow.{Bor}
 use Rattle.std.specs.List.{flat_map, fold}
@@ -16,20 +16,20 @@ use Rattle.unit_text.specs.declared.numbers.BlockPlace.{BlockPlace}
 use Rattle.unit_text.specs.declared.numbers.BlockPlace.TheVariants as place
 use Rattle.unit_text.specs.declared.numbers.UnitNumbers.{UnitNumbers}
 
--- The numbers that slices hold, one after the other.
+-- The numbers in slices, joined in their order.
 abbrev pub joined_slices : List (Bor (List ℕ)) → List ℕ
 joined_slices = flat_map (λ slice. slice.now)
 
 -- ---- Places
 
--- Where a line behind the open block stands.
+-- The place of a line that follows the open block.
 abbrev pub place_in : OpenBlock → BlockPlace
 place_in block.Top = place.Top
 place_in (block.Unit unit) = place.Unit
 place_in (block.Step unit step) = place.Step
 place_in (block.Instance instance) = place.Instance
 
--- The same of what lines nest to.
+-- The same for what lines nest to.
 abbrev pub place_of : Open → BlockPlace
 place_of AtTop = place.Top
 place_of (InUnit name unit_parts) = place.Unit
@@ -38,7 +38,7 @@ place_of (InInstance instance) = place.Instance
 
 -- ---- No lines
 
--- Of a unit.
+-- No numbers of a unit.
 abbrev pub no_unit_numbers : UnitNumbers
 no_unit_numbers = record {
   head = [];
@@ -71,7 +71,7 @@ bare_numbers header = record {
 
 -- ---- Groups
 
--- The group of a line that stands in this place, behind the header. None where it may not stand there.
+-- The group of a line in this place, after the header. None where it is not allowed there.
 abbrev pub group_of : BlockPlace → LineForm → Option Group
 group_of place.Step some = Some lines.Step
 group_of place.Instance some = Some lines.Instances
@@ -99,7 +99,7 @@ group_of place.Top _ = None
 
 -- ---- One line more
 
--- A line of the unit that is open which does not end it.
+-- With a line of the open unit that does not end it.
 abbrev pub in_unit_group : UnitNumbers → Group → ℕ → UnitNumbers
 in_unit_group unit lines.UnitHead number = record unit { head = unit.head ++ (number ∷ []) }
 in_unit_group unit lines.Resolution number = record unit { resolution = unit.resolution ++ (number ∷ []) }
@@ -120,7 +120,7 @@ unit_in_order unit =
     joined (unit.head ∷ unit.resolution ∷ unit.params ∷ unit.states ∷ unit.locals ∷ unit.inputs ∷ unit.events_in ∷ unit.outputs ∷ unit.events_out ∷ unit.max
     ∷ unit.step ∷ [])
 
--- The `end` of a unit: its lines join those of the units before it.
+-- The `end` of a unit: its lines are added to those of the units before it.
 abbrev pub unit_end : Numbers → ℕ → Numbers
 unit_end numbers number =
     record numbers { units = numbers.units ++ unit_in_order numbers.unit ++ (number ∷ []); unit = no_unit_numbers }
@@ -141,12 +141,12 @@ with_number numbers lines.Rows number = record numbers { rows = numbers.rows ++ 
 with_number numbers lines.Samples number = record numbers { samples = numbers.samples ++ (number ∷ []) }
 with_number numbers of_unit number = record numbers { unit = in_unit_group numbers.unit of_unit number }
 
--- A line, where it is of a group.
+-- A line, if it is in a group.
 abbrev pub with_group : Numbers → Option Group → ℕ → Numbers
 with_group numbers None number = numbers
 with_group numbers (Some some) number = with_number numbers some number
 
--- A line behind the header, which stands in this place.
+-- A line in this place, after the header.
 abbrev pub with_line : Numbers → BlockPlace → LineForm → ℕ → Numbers
 with_line numbers at some number = with_group numbers (group_of at some) number
 
@@ -159,11 +159,11 @@ marks_of (Some some) number = record { group = some; number = number } ∷ []
 abbrev pub with_mark : Numbers → Mark → Numbers
 with_mark numbers mark = with_number numbers mark.group mark.number
 
--- Lines, one after the other.
+-- With lines, in their order.
 abbrev pub with_marks : Numbers → List Mark → Numbers
 with_marks numbers marks = fold with_mark numbers marks
 
--- All numbers in canonical order, where no unit is open.
+-- All numbers in canonical order, if no unit is open.
 abbrev pub in_order : Numbers → List ℕ
 in_order numbers =
     joined (numbers.header ∷ numbers.units ∷ numbers.instances ∷ numbers.wires ∷ numbers.stop ∷ numbers.longest ∷ numbers.zero ∷ numbers.rows

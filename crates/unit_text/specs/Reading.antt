@@ -1,4 +1,4 @@
--- Reading of a text along its lines: what each line makes of what was read before it.
+-- Reading of a text line by line: how each line changes what was read before it.
 use Rattle.std.specs.Prelude.{◌≡◌, ◌≤◌, ◌+◌, ◌⊎◌, ℕ, suc, nat_lt, List, [], ◌∷◌, ◌++◌, length, IsTrue, Option, Some, None, Result, Ok, Err, true, false, ⊤}
 use Rattle.std.specs.Prelude.{if◌then◌else◌}
 use Rattle.std.specs.Borrow.{Bor}
@@ -26,26 +26,26 @@ use Rattle.unit_text.specs.declared.numbers.Group.{Group}
 use Rattle.unit_text.specs.declared.numbers.Mark.{Mark}
 use Rattle.unit_text.specs.declared.reading.ReadText.{ReadText}
 
--- The line keeps the rules that look at its bytes alone, and is not blank.
+-- The line keeps the rules that concern its bytes alone, and is not blank.
 pub record IsWritten (line : List ℕ) : Type 0 where
   pub clean : IsClean line
   pub written : is_blank_line line ≡ false
 
 -- ---- The first line that is not blank
 
--- The rule that the first line breaks which has this form, and is no header: it has no form of version 1, or may not stand
--- outside blocks, or begins no text.
+-- The rule that a first line with this form breaks, where the form is not a header: rule 4 for a form that only version
+-- 2 has, rule 5 for one that is not allowed outside blocks, else rule 7.
 abbrev pub headless_rule : LineForm → ℕ
 headless_rule some = if is_of_version_2 some then 4 else (if may_stand no_lines some then 7 else 5)
 
--- It has a form, and is no header.
+-- The line has a form, which is not a header.
 pub record IsHeadless (line : List ℕ) (rule : ℕ) : Type 0 where
   pub some : LineForm
   pub has_form : HasForm some line
   pub no_header : (version : ℕ) → some ≡ form.Header version → ⊥
   pub rule_is : rule ≡ headless_rule some
 
--- A header tells its version, and any other form the rule that a first line of this form breaks.
+-- A header gives its version, and any other form the rule that a first line with this form breaks.
 abbrev pub TellsVersion : LineForm → Result ℕ ℕ → Type 0
 TellsVersion some (Ok version) = some ≡ form.Header version
 TellsVersion some (Err rule) = ((version : ℕ) → some ≡ form.Header version → ⊥) × (rule ≡ headless_rule some)
@@ -55,13 +55,13 @@ abbrev pub FirstGives : List ℕ → Result ℕ ℕ → Type 0
 FirstGives line (Ok version) = HasForm (form.Header version) line
 FirstGives line (Err rule) = ((rule ≡ 4) × LineHas line None) ⊎ IsHeadless line rule
 
--- ---- The lines behind the header
+-- ---- The lines after the header
 
--- A text of the version has the form.
+-- A text of the version may have the form.
 abbrev pub IsFormOf : ℕ → LineForm → Type 0
 IsFormOf version some = is_of_version_2 some ≡ true → version ≡ 2
 
--- The line has a form that no text of the version has.
+-- The line has a form that no text of the version may have.
 pub record IsOfOther (version : ℕ) (line : List ℕ) : Type 0 where
   pub some : LineForm
   pub has_form : HasForm some line
@@ -72,19 +72,19 @@ abbrev pub FormIn : ℕ → List ℕ → Option LineForm → Type 0
 FormIn version line (Some some) = HasForm some line × IsFormOf version some
 FormIn version line None = LineHas line None ⊎ IsOfOther version line
 
--- The draft with a line of the form, and the group of this line. None where the form may not stand there.
+-- The draft with one more line of the form, and the group of this line. None where the form is not allowed there.
 abbrev pub and_group : Draft → LineForm → Option (Draft × Option Group)
 and_group draft some = option_map (λ next. (next, group_of (place_in draft.block) some)) (with_form draft some)
 
--- The line has a form of the version, and this comes of the draft with it.
+-- The line has a form of the version, and `next` is the draft with it.
 pub record FormGives (draft : Draft) (line : List ℕ) (next : Option (Draft × Option Group)) : Type 0 where
   pub is_written : IsWritten line
   pub some : LineForm
   pub form_in : FormIn draft.system.version line (Some some)
   pub next_is : and_group draft some ≡ next
 
--- What the line makes of the draft of the lines before it: the draft with it, and its group, of which a blank line has none; or
--- a rule that it breaks.
+-- What reading the line gives after the draft of the lines before it: the draft with it and its group (a blank line has
+-- none), or a rule that it breaks.
 abbrev pub LineGives : Draft → List ℕ → Result (Draft × Option Group) ℕ → Type 0
 LineGives draft line (Ok next) = (IsClean line × (is_blank_line line ≡ true) × (next ≡ (draft, None))) ⊎ FormGives draft line (Some next)
 LineGives draft line (Err rule) =
@@ -92,13 +92,13 @@ LineGives draft line (Err rule) =
     ⊎ ((rule ≡ 4) × IsWritten line × FormIn draft.system.version line None)
     ⊎ ((rule ≡ 5) × FormGives draft line None)
 
--- ---- Answers
+-- ---- Results
 
 abbrev pub fault_at : Unread → ℕ → ℕ → TextFault
 fault_at unread.NoForm line rule = fault.Line line rule
 fault_at unread.NoMemory line rule = fault.NoMemory
 
--- What is answered is so; want of memory says nothing, and a refusal is at the line of that number.
+-- The property holds of the result. A refusal is at the line with this number. Without memory nothing is stated.
 abbrev pub AnswersAt : {X : Type 0} → ℕ → (Result X ℕ → Type 0) → Result X TextFault → Type 0
 AnswersAt number Says (Ok read) = Says (Ok read)
 AnswersAt number Says (Err (fault.Line line rule)) = (line ≡ number) × Says (Err rule)
@@ -106,13 +106,13 @@ AnswersAt number Says (Err fault.NoMemory) = ⊤
 
 -- ---- Texts
 
--- The rule that a text of blank lines breaks at its first: that of its length, where it is too long, and else that a text
--- begins with a header.
+-- The rule that a text of blank lines breaks at its first line: rule 3 where this line is too long, else rule 7, since
+-- the text begins with no header.
 abbrev pub blank_rule : List (List ℕ) → ℕ
 blank_rule [] = 7
 blank_rule (line ∷ lines) = if nat_lt line_limit (length line) then 3 else 7
 
--- A line of a text, behind blank lines that keep the rules.
+-- A line of a text, after blank lines that keep the rules.
 pub record FirstAt (text : List ℕ) (line : List ℕ) (number : ℕ) (rest : List ℕ) : Type 0 where
   pub before : List (List ℕ)
   pub cut : source_lines text ≡ before ++ (line ∷ source_lines rest)
@@ -120,7 +120,7 @@ pub record FirstAt (text : List ℕ) (line : List ℕ) (number : ℕ) (rest : Li
   pub number_is : number ≡ suc (length before)
   pub within : number + length rest ≤ length text
 
--- The first line of a text that is not blank, or that breaks a rule, gives a version there, or breaks the rule.
+-- The first line of a text that is not blank, or that breaks a rule: it gives the version, or it breaks the rule.
 pub record HeadsText (text : List ℕ) (version number : ℕ) (rest : List ℕ) : Type 0 where
   pub line : List ℕ
   pub first : FirstAt text line number rest
@@ -138,15 +138,15 @@ HeaderGives text (Ok (version, number, rest)) = HeadsText text version number re
 HeaderGives text (Err (fault.Line number rule)) = HeadBreaks text number rule ⊎ IsTrue (list_all is_blank_line (source_lines text))
 HeaderGives text (Err fault.NoMemory) = ⊤
 
--- What all lines say, of which the last has this number, or that a block is open there.
+-- The system of all lines, the last of which has this number, or that a block is open there.
 abbrev pub WholeGives : Draft → ℕ → List Mark → ℕ → Result ReadText TextFault → Type 0
 WholeGives draft header marks number (Ok read) =
     (whole_system draft ≡ Some read.system) × (read.lines ≡ in_order (with_marks (bare_numbers header) marks))
 WholeGives draft header marks number (Err (fault.Line line rule)) = (whole_system draft ≡ None) × (line ≡ number) × (rule ≡ 6)
 WholeGives draft header marks number (Err fault.NoMemory) = ⊤
 
--- The answer to a text: the system that it says, with the lines that its canonical lines came from, or the line and the rule
--- by which it is refused.
+-- The result for a text: its system, with the lines that its canonical lines came from, or the line and the rule by
+-- which it is refused.
 abbrev pub AnswersText : List ℕ → Result ReadText TextFault → Type 0
 AnswersText text (Ok read) = ReadsFrom text read.system read.lines
 AnswersText text (Err (fault.Line line rule)) = IsRefused text line rule

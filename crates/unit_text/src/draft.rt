@@ -1,4 +1,4 @@
-//! A system as far as the lines of its text have come.
+//! Drafts: the system of the lines of a text that were read so far.
 ghost use Rattle.std.specs.Prelude.{◌≡◌, Some};
 ghost use Rattle.text_tokens.specs.Scanning.{Gives};
 ghost use Rattle.text_tokens.specs.declared.fault.Unread.TheVariants.{NoForm};
@@ -14,18 +14,18 @@ use unit_tree::{
     Setting, State, System, Unit, Wire,
 };
 
-/// What a block of step lines began with.
+/// How a block of step lines began.
 #[derive(Drop)]
 pub enum Head {
     /// `if cond`
     Then(Expr),
-    /// `if cond`, the lines up to its `else`, and that.
+    /// `if cond`, the lines up to its `else`, and the `else`.
     Else { cond: Expr, yes: List<Line> },
     /// `repeat K`
     Times(u32),
 }
 
-/// An open block of step lines that another one stands in.
+/// An open block of step lines that has another one inside.
 #[derive(Drop)]
 pub struct Around {
     /// The lines before it in the block around it.
@@ -33,7 +33,7 @@ pub struct Around {
     pub head: Head,
 }
 
-/// A step so far.
+/// A step, as far as it was read.
 #[derive(Drop)]
 pub struct StepSoFar {
     /// The lines of its innermost block.
@@ -42,7 +42,7 @@ pub struct StepSoFar {
     pub around: List<Around>,
 }
 
-/// The block that is open, with what it holds so far.
+/// The block that is open, with its content so far.
 #[derive(Drop)]
 pub enum OpenBlock {
     Top,
@@ -60,7 +60,7 @@ impl OpenBlock {
     }
 }
 
-/// The parts of a text that are whole, as the system that they say, and the block that is open behind them.
+/// The complete parts of a text, as a system, and the block that is open after them.
 #[derive(Drop)]
 pub struct Draft {
     pub system: System,
@@ -68,7 +68,7 @@ pub struct Draft {
 }
 
 impl Draft {
-    /// What the header of a version says. Adding lines takes memory from `alloc`.
+    /// Returns the draft of the header of a version. Adding lines takes memory from `alloc`.
     pub fn new(alloc: Global, version: u8) -> Draft
         ensures { result ≡ bare_draft version }
     {
@@ -88,7 +88,7 @@ impl Draft {
         }
     }
 
-    /// The draft with a line more, behind the header. `NoForm` where the line may not stand there.
+    /// The draft with one more line, after the header. `NoForm` where the line is not allowed there.
     pub fn with_form(self, alloc: Global, form: LineForm) -> Result<Draft, Unread>
         ensures { Gives result (with_form self form) }
     {
@@ -101,7 +101,7 @@ impl Draft {
         }
     }
 
-    /// The system, where no block is open.
+    /// The system, if no block is open.
     pub fn whole_system(self) -> Option<System>
         ensures { result ≡ whole_system self }
     {
@@ -126,7 +126,7 @@ fn in_instance(system: System, instance: Instance) -> Draft
     }
 }
 
-/// Nothing but a unit's name.
+/// A unit that has nothing but its name.
 fn bare_unit(alloc: Global, name: Name) -> Unit
     ensures { result ≡ bare_unit name }
 {
@@ -163,7 +163,7 @@ fn in_unit(system: System, unit: Unit) -> Draft
     }
 }
 
-/// What is told of a line that may not stand where it does.
+/// The error for a line that is not allowed where it is: `NoForm`.
 fn misplaced(form: LineForm) -> Unread
     ensures { result ≡ NoForm }
 {
@@ -171,7 +171,7 @@ fn misplaced(form: LineForm) -> Unread
     Unread::NoForm
 }
 
-/// Puts a connection behind the others.
+/// Adds a connection at the end.
 fn put_wire(system: &mut System, wire: Wire) -> Result<(), Unread>
     ensures { Puts result system.new (Some (with_wire system.old wire)) }
 {
@@ -179,7 +179,7 @@ fn put_wire(system: &mut System, wire: Wire) -> Result<(), Unread>
     Ok(())
 }
 
-/// Puts where the run ends, which may be told once.
+/// Sets `stop`. `NoForm` where it is set already.
 fn put_stop(system: &mut System, seconds: Literal) -> Result<(), Unread>
     ensures { Puts result system.new (with_stop system.old seconds) }
 {
@@ -190,7 +190,7 @@ fn put_stop(system: &mut System, seconds: Literal) -> Result<(), Unread>
     Ok(())
 }
 
-/// Puts the longest step, which may be told once.
+/// Sets `longest`. `NoForm` where it is set already.
 fn put_longest(system: &mut System, seconds: Literal) -> Result<(), Unread>
     ensures { Puts result system.new (with_longest system.old seconds) }
 {
@@ -201,7 +201,7 @@ fn put_longest(system: &mut System, seconds: Literal) -> Result<(), Unread>
     Ok(())
 }
 
-/// Puts the budget of steps of length zero, which may be told once.
+/// Sets the zero budget. `NoForm` where it is set already.
 fn put_zero(system: &mut System, count: u32) -> Result<(), Unread>
     ensures { Puts result system.new (with_zero system.old count) }
 {
@@ -212,7 +212,7 @@ fn put_zero(system: &mut System, count: u32) -> Result<(), Unread>
     Ok(())
 }
 
-/// Puts the budget of rows, which may be told once.
+/// Sets the row budget. `NoForm` where it is set already.
 fn put_rows(system: &mut System, count: u32) -> Result<(), Unread>
     ensures { Puts result system.new (with_rows system.old count) }
 {
@@ -223,7 +223,7 @@ fn put_rows(system: &mut System, count: u32) -> Result<(), Unread>
     Ok(())
 }
 
-/// Puts a port that is sampled behind the others.
+/// Adds a sampled port at the end.
 fn put_sample(system: &mut System, port: PortName) -> Result<(), Unread>
     ensures { Puts result system.new (Some (with_sample system.old port)) }
 {
@@ -242,7 +242,7 @@ fn bare_instance(alloc: Global, name: Name, unit: Name) -> Instance
     }
 }
 
-/// Puts a limit, each of which may be told once.
+/// Sets a limit of the run. `NoForm` where it is set already.
 fn put_limit(system: &mut System, form: &LineForm) -> Result<(), Unread>
     ensures { Puts result system.new (limit_form system.old form.now) }
 {
@@ -255,7 +255,7 @@ fn put_limit(system: &mut System, form: &LineForm) -> Result<(), Unread>
     }
 }
 
-/// The same, of an owned form.
+/// The same for an owned form.
 fn take_limit(system: &mut System, form: LineForm) -> Result<(), Unread>
     ensures { Puts result system.new (limit_form system.old form) }
 {
@@ -264,7 +264,7 @@ fn take_limit(system: &mut System, form: LineForm) -> Result<(), Unread>
     put
 }
 
-/// Puts a line outside blocks that opens none.
+/// Adds a line outside blocks that opens none.
 fn put_at_top(system: &mut System, form: LineForm) -> Result<(), Unread>
     ensures { Puts result system.new (single_form system.old form) }
 {
@@ -275,7 +275,7 @@ fn put_at_top(system: &mut System, form: LineForm) -> Result<(), Unread>
     }
 }
 
-/// A line outside blocks.
+/// Reads a line outside blocks.
 fn top_form(alloc: Global, mut system: System, form: LineForm) -> Result<Draft, Unread>
     ensures { Gives result (top_form system form) }
 {
@@ -294,7 +294,7 @@ fn top_form(alloc: Global, mut system: System, form: LineForm) -> Result<Draft, 
     }
 }
 
-/// Puts a unit's resolution, which may be told once.
+/// Sets a unit's resolution. `NoForm` where it is set already.
 fn put_resolution(unit: &mut Unit, decimals: u8) -> Result<(), Unread>
     ensures { Puts result unit.new (with_resolution unit.old decimals) }
 {
@@ -305,7 +305,7 @@ fn put_resolution(unit: &mut Unit, decimals: u8) -> Result<(), Unread>
     Ok(())
 }
 
-/// Puts a parameter behind the others.
+/// Adds a parameter at the end.
 fn put_param(unit: &mut Unit, param: Param) -> Result<(), Unread>
     ensures { Puts result unit.new (Some (with_param unit.old param)) }
 {
@@ -313,7 +313,7 @@ fn put_param(unit: &mut Unit, param: Param) -> Result<(), Unread>
     Ok(())
 }
 
-/// Puts a state behind the others.
+/// Adds a state at the end.
 fn put_state(unit: &mut Unit, state: State) -> Result<(), Unread>
     ensures { Puts result unit.new (Some (with_state unit.old state)) }
 {
@@ -321,7 +321,7 @@ fn put_state(unit: &mut Unit, state: State) -> Result<(), Unread>
     Ok(())
 }
 
-/// Puts a local behind the others.
+/// Adds a local at the end.
 fn put_local(unit: &mut Unit, local: Local) -> Result<(), Unread>
     ensures { Puts result unit.new (Some (with_local unit.old local)) }
 {
@@ -329,7 +329,7 @@ fn put_local(unit: &mut Unit, local: Local) -> Result<(), Unread>
     Ok(())
 }
 
-/// Puts an input behind the others.
+/// Adds an input at the end.
 fn put_input(unit: &mut Unit, input: Input) -> Result<(), Unread>
     ensures { Puts result unit.new (Some (with_input unit.old input)) }
 {
@@ -337,7 +337,7 @@ fn put_input(unit: &mut Unit, input: Input) -> Result<(), Unread>
     Ok(())
 }
 
-/// Puts an event input behind the others.
+/// Adds an event input at the end.
 fn put_event_in(unit: &mut Unit, event: EventIn) -> Result<(), Unread>
     ensures { Puts result unit.new (Some (with_event_in unit.old event)) }
 {
@@ -345,7 +345,7 @@ fn put_event_in(unit: &mut Unit, event: EventIn) -> Result<(), Unread>
     Ok(())
 }
 
-/// Puts an output behind the others.
+/// Adds an output at the end.
 fn put_output(unit: &mut Unit, output: Output) -> Result<(), Unread>
     ensures { Puts result unit.new (Some (with_output unit.old output)) }
 {
@@ -353,7 +353,7 @@ fn put_output(unit: &mut Unit, output: Output) -> Result<(), Unread>
     Ok(())
 }
 
-/// Puts an event output behind the others.
+/// Adds an event output at the end.
 fn put_event_out(unit: &mut Unit, event: EventOut) -> Result<(), Unread>
     ensures { Puts result unit.new (Some (with_event_out unit.old event)) }
 {
@@ -361,7 +361,7 @@ fn put_event_out(unit: &mut Unit, event: EventOut) -> Result<(), Unread>
     Ok(())
 }
 
-/// Puts a unit's greatest step, which may be told once.
+/// Sets a unit's `max`. `NoForm` where it is set already.
 fn put_max(unit: &mut Unit, value: Expr) -> Result<(), Unread>
     ensures { Puts result unit.new (with_max unit.old value) }
 {
@@ -372,7 +372,7 @@ fn put_max(unit: &mut Unit, value: Expr) -> Result<(), Unread>
     Ok(())
 }
 
-/// Puts a declaration, or another line that a unit says of itself.
+/// Adds a declaration, or another line of a unit that opens no block.
 fn put_declared(unit: &mut Unit, form: LineForm) -> Result<(), Unread>
     ensures { Puts result unit.new (declared_form unit.old form) }
 {
@@ -390,7 +390,7 @@ fn put_declared(unit: &mut Unit, form: LineForm) -> Result<(), Unread>
     }
 }
 
-/// The step of a unit begins, which may have one.
+/// Begins the step of a unit. `NoForm` where it has one already.
 fn with_step(alloc: Global, system: System, unit: Unit) -> Result<Draft, Unread>
     ensures { Gives result (with_step system unit) }
 {
@@ -406,7 +406,7 @@ fn with_step(alloc: Global, system: System, unit: Unit) -> Result<Draft, Unread>
     Ok(in_step(system, unit, step))
 }
 
-/// A unit is whole.
+/// Adds a complete unit to the system.
 fn with_unit(mut system: System, unit: Unit) -> Result<Draft, Unread>
     ensures { Gives result (Some (with_unit system unit)) }
 {
@@ -419,7 +419,7 @@ fn with_unit(mut system: System, unit: Unit) -> Result<Draft, Unread>
     }
 }
 
-/// A line in a unit.
+/// Reads a line in a unit.
 fn unit_form(alloc: Global, system: System, mut unit: Unit, form: LineForm) -> Result<Draft, Unread>
     ensures { Gives result (unit_form system unit form) }
 {
@@ -437,7 +437,7 @@ fn unit_form(alloc: Global, system: System, mut unit: Unit, form: LineForm) -> R
     }
 }
 
-/// The blocks but the innermost, and that.
+/// The other blocks, and the innermost one.
 #[tactic(auto, using(crate::proofs::DraftLemmas::split_pop))]
 fn split_last(around: List<Around>) -> Option<(List<Around>, Around)>
     ensures { result ≡ split_last around }
@@ -456,7 +456,7 @@ fn in_step(system: System, unit: Unit, step: StepSoFar) -> Draft
     }
 }
 
-/// The step with a line without a block more.
+/// The step with one more line that has no block.
 fn with_line(mut step: StepSoFar, line: Line) -> Result<StepSoFar, Unread>
     ensures { Gives result (Some (and_line step line)) }
 {
@@ -464,7 +464,7 @@ fn with_line(mut step: StepSoFar, line: Line) -> Result<StepSoFar, Unread>
     Ok(step)
 }
 
-/// The step with a block more that begins.
+/// The step with a block that begins.
 fn in_block(alloc: Global, step: StepSoFar, head: Head) -> Result<StepSoFar, Unread>
     ensures { Gives result (in_block step head) }
 {
@@ -482,7 +482,7 @@ fn in_block(alloc: Global, step: StepSoFar, head: Head) -> Result<StepSoFar, Unr
     Ok(StepSoFar { lines, around })
 }
 
-/// The step behind an `else`.
+/// The step after an `else`.
 fn turned(alloc: Global, step: StepSoFar) -> Result<StepSoFar, Unread>
     ensures { Gives result (turned step) }
 {
@@ -500,7 +500,7 @@ fn turned(alloc: Global, step: StepSoFar) -> Result<StepSoFar, Unread>
     Ok(StepSoFar { lines, around })
 }
 
-/// The line that a block of step lines is.
+/// The line with this head and this block of step lines.
 fn headed(head: Head, lines: List<Line>) -> Line
     ensures { result ≡ headed head lines }
 {
@@ -519,7 +519,7 @@ fn headed(head: Head, lines: List<Line>) -> Line
     }
 }
 
-/// The step behind the `end` of its innermost block, which becomes a line of the one around it.
+/// The step after the `end` of its innermost block, which becomes a line of the block around it.
 fn behind_block(around: List<Around>, block: Around, lines: List<Line>) -> Result<StepSoFar, Unread>
     ensures { Gives result (Some (behind_block around block lines)) }
 {
@@ -531,7 +531,8 @@ fn behind_block(around: List<Around>, block: Around, lines: List<Line>) -> Resul
     })
 }
 
-/// Behind an `end`: the innermost block becomes a line of the one around it, and the step one of its unit.
+/// Reads an `end` in a step: the innermost block becomes a line of the block around it, or the step becomes
+/// that of its unit.
 fn ended(system: System, mut unit: Unit, step: StepSoFar) -> Result<Draft, Unread>
     ensures { Gives result (ended system unit step) }
 {
@@ -552,7 +553,7 @@ fn ended(system: System, mut unit: Unit, step: StepSoFar) -> Result<Draft, Unrea
     }
 }
 
-/// A line in a step that does not end a block.
+/// Reads a line in a step that does not end a block.
 fn line_in_step(alloc: Global, step: StepSoFar, form: LineForm) -> Result<StepSoFar, Unread>
     ensures { Gives result (line_in_step step form) }
 {
@@ -566,7 +567,7 @@ fn line_in_step(alloc: Global, step: StepSoFar, form: LineForm) -> Result<StepSo
     }
 }
 
-/// A line in a step.
+/// Reads a line in a step.
 fn step_form(
     alloc: Global,
     system: System,
@@ -589,7 +590,7 @@ fn step_form(
     }
 }
 
-/// Puts a setting behind the others.
+/// Adds a setting at the end.
 fn put_setting(instance: &mut Instance, setting: Setting) -> Result<(), Unread>
     ensures { Puts result instance.new (Some (with_setting instance.old setting)) }
 {
@@ -597,7 +598,7 @@ fn put_setting(instance: &mut Instance, setting: Setting) -> Result<(), Unread>
     Ok(())
 }
 
-/// Puts a line in an instance that does not end it.
+/// Adds a line in an instance that does not end it.
 fn put_in_instance(instance: &mut Instance, form: LineForm) -> Result<(), Unread>
     ensures { Puts result instance.new (setting_form instance.old form) }
 {
@@ -607,7 +608,7 @@ fn put_in_instance(instance: &mut Instance, form: LineForm) -> Result<(), Unread
     }
 }
 
-/// An instance is whole.
+/// Adds a complete instance to the system.
 fn with_instance(mut system: System, instance: Instance) -> Result<Draft, Unread>
     ensures { Gives result (Some (with_instance system instance)) }
 {
@@ -620,7 +621,7 @@ fn with_instance(mut system: System, instance: Instance) -> Result<Draft, Unread
     }
 }
 
-/// A line in an instance.
+/// Reads a line in an instance.
 fn instance_form(system: System, mut instance: Instance, form: LineForm) -> Result<Draft, Unread>
     ensures { Gives result (instance_form system instance form) }
 {

@@ -3,10 +3,11 @@ ghost use Rattle.std.specs.Prelude.{◌≡◌};
 use fixed_words::NoMemory;
 use thiserror::Error;
 
-/// Why a text gives no system.
+/// Why a text has no system.
 #[derive(Clone, Copy, Debug, PartialEq, Eq, Error)]
 pub enum TextFault {
-    /// The text breaks a rule at a line, counted from 1: the first line that breaks one, and the least that it breaks.
+    /// The text breaks a rule at a line, counted from 1. It is the first line that breaks a rule, and the least rule
+    /// that it breaks.
     #[error("line {line}: rule {rule}")]
     Line { line: u32, rule: u8 },
     #[error("no memory")]

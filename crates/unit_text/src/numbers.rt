@@ -1,4 +1,4 @@
-//! The numbers of the lines of a text, group by group.
+//! The numbers of the lines of a text, by groups.
 ghost use Rattle.std.specs.Prelude.{◌≡◌, ◌++◌, IfOk, OnOk};
 ghost use Rattle.unit_text.specs.declared.numbers.BlockPlace.TheVariants as place;
 ghost use Rattle.unit_text.specs.Numbering.{joined_slices, no_unit_numbers, bare_numbers, place_in, group_of, in_unit_group, unit_in_order, unit_end, with_number, with_marks, marks_of, in_order};
@@ -9,7 +9,7 @@ use std::alloc::Global;
 use std::mem::replace;
 use unit_tree::LineForm;
 
-/// Where a line stands: what is open before it.
+/// The place of a line: which kind of block is open before it.
 #[derive(Clone, Copy)]
 pub enum BlockPlace {
     Top,
@@ -19,7 +19,7 @@ pub enum BlockPlace {
 }
 
 impl BlockPlace {
-    /// Where a line behind this block stands.
+    /// The place of a line that follows this block.
     pub fn of(block: &OpenBlock) -> BlockPlace
         ensures { result ≡ place_in block.now }
     {
@@ -32,7 +32,7 @@ impl BlockPlace {
     }
 }
 
-/// The lines that stand together in canonical order, in each unit or in the whole text. The header is in none.
+/// Lines that are together in canonical order, in each unit or in the whole text. The header is in no group.
 #[derive(Clone, Copy)]
 pub enum Group {
     UnitHead,
@@ -45,7 +45,7 @@ pub enum Group {
     Outputs,
     EventOutputs,
     Max,
-    /// The lines of a step, from its own to its `end`.
+    /// The lines of a step, from `step` to its `end`.
     Step,
     UnitEnd,
     /// All lines of instances.
@@ -59,7 +59,8 @@ pub enum Group {
 }
 
 impl Group {
-    /// The group of a line outside blocks, behind the header. None where it may not stand there, as below.
+    /// The group of a line outside blocks, after the header. None where it is not allowed there; so it is in
+    /// the functions below.
     fn at_top(form: &LineForm) -> Option<Group>
         ensures { result ≡ group_of place.Top form.now }
     {
@@ -96,7 +97,7 @@ impl Group {
         }
     }
 
-    /// The group of a line that stands in this place.
+    /// The group of a line in this place.
     pub fn of(place: BlockPlace, form: &LineForm) -> Option<Group>
         ensures { result ≡ group_of place form.now }
     {
@@ -116,7 +117,7 @@ pub struct Mark {
     pub number: u32,
 }
 
-/// Notes the line of this number, where it is of a group.
+/// Adds a mark for the line with this number, if it is in a group.
 pub fn note(marks: &mut Vec<Mark>, group: Option<Group>, number: u32) -> Result<(), NoMemory>
     ensures { OnOk result (marks.new.items ≡ marks.old.items ++ marks_of group number) }
 {
@@ -126,7 +127,7 @@ pub fn note(marks: &mut Vec<Mark>, group: Option<Group>, number: u32) -> Result<
     Ok(())
 }
 
-/// The numbers of the lines of the unit that is open, group by group.
+/// The numbers of the lines of the open unit, by groups.
 #[derive(Drop)]
 pub struct UnitNumbers {
     pub head: List<u32>,
@@ -142,11 +143,11 @@ pub struct UnitNumbers {
     pub step: List<u32>,
 }
 
-/// The numbers of the lines of a text, group by group. Those of the unit that is open stand by themselves.
+/// The numbers of the lines of a text, by groups. Those of the open unit are kept apart.
 #[derive(Drop)]
 pub struct Numbers {
     pub header: List<u32>,
-    /// The lines of the units that are whole, those of each in canonical order.
+    /// The lines of the complete units, those of each in canonical order.
     pub units: List<u32>,
     pub instances: List<u32>,
     pub wires: List<u32>,
@@ -168,7 +169,7 @@ fn append(numbers: &mut List<u32>, more: &[u32]) -> Result<(), NoMemory>
     Ok(())
 }
 
-/// Appends the lists, one after the other.
+/// Appends the lists in their order.
 fn append_all(numbers: &mut List<u32>, lists: &[&[u32]]) -> Result<(), NoMemory>
     ensures { OnOk result (numbers.new ≡ numbers.old ++ joined_slices lists.now) }
 {
@@ -179,7 +180,7 @@ fn append_all(numbers: &mut List<u32>, lists: &[&[u32]]) -> Result<(), NoMemory>
 }
 
 impl UnitNumbers {
-    /// No line of a unit.
+    /// Returns the numbers of a unit without lines.
     fn new(alloc: Global) -> UnitNumbers
         ensures { result ≡ no_unit_numbers }
     {
@@ -218,7 +219,7 @@ impl UnitNumbers {
         }
     }
 
-    /// Appends the numbers to those of the units before, in canonical order.
+    /// Appends the numbers of this unit, in canonical order, to those of the units before.
     fn append_to(&self, units: &mut List<u32>) -> Result<(), NoMemory>
         ensures { OnOk result (units.new ≡ units.old ++ unit_in_order self.now) }
     {
@@ -242,7 +243,7 @@ impl UnitNumbers {
 }
 
 impl Numbers {
-    /// The number of the header alone. Adding lines takes memory from `alloc`.
+    /// Returns the number of the header alone. Adding lines takes memory from `alloc`.
     fn new(alloc: Global, header: u32) -> Result<Numbers, NoMemory>
         ensures { IfOk result (λ numbers. numbers ≡ bare_numbers header) }
     {
@@ -260,7 +261,7 @@ impl Numbers {
         })
     }
 
-    /// Adds the `end` of the unit that is open.
+    /// Adds the `end` of the open unit.
     fn end_unit(&mut self, alloc: Global, number: u32) -> Result<(), NoMemory>
         ensures { OnOk result (self.new ≡ unit_end self.old number) }
     {
@@ -307,7 +308,7 @@ impl Numbers {
         )
     }
 
-    /// Adds lines, one after the other.
+    /// Adds lines, in their order.
     fn add_all(&mut self, alloc: Global, marks: &[Mark]) -> Result<(), NoMemory>
         ensures { OnOk result (self.new ≡ with_marks self.old marks.now) }
     {
@@ -317,7 +318,7 @@ impl Numbers {
         Ok(())
     }
 
-    /// Adds lines, and gives all numbers, in canonical order.
+    /// Adds lines, and returns all numbers in canonical order.
     fn in_order_with(&mut self, alloc: Global, marks: &[Mark]) -> Result<List<u32>, NoMemory>
         ensures { IfOk result (λ numbers. numbers ≡ in_order (with_marks self.old marks.now)) }
     {
@@ -328,7 +329,7 @@ impl Numbers {
     }
 }
 
-/// The numbers of the header and of the lines behind it, in canonical order.
+/// Returns the numbers of the header and of the lines after it, in canonical order.
 pub fn numbers_in_order(alloc: Global, header: u32, marks: &[Mark]) -> Result<List<u32>, NoMemory>
     ensures { IfOk result (λ numbers. numbers ≡ in_order (with_marks (bare_numbers header) marks.now)) }
 {

@@ -1,4 +1,4 @@
-//! Reading of a text, along its lines.
+//! Reading of a text line by line.
 ghost use Rattle.std.specs.Prelude.{◌≡◌, ◌≤◌, true, false, IfOk};
 ghost use Rattle.std.specs.List.{list_all};
 ghost use Rattle.unit_tree.specs.Blocks.{no_lines, may_stand};
@@ -20,7 +20,7 @@ use text_lines::{
 use text_tokens::{Unread, cut_line, size};
 use unit_tree::{LineForm, System};
 
-/// Whether a line may stand outside blocks, behind no lines.
+/// Whether a line is allowed outside blocks before any other line.
 fn may_begin(form: &LineForm) -> bool
     ensures { result ≡ may_stand no_lines form.now }
 {
@@ -38,7 +38,7 @@ fn may_begin(form: &LineForm) -> bool
     }
 }
 
-/// The rule that a first line breaks which has this form, and is no header.
+/// The rule that a first line with this form breaks, where the form is not a header.
 fn headless_rule(form: &LineForm) -> u8
     ensures { result ≡ headless_rule form.now }
 {
@@ -51,7 +51,7 @@ fn headless_rule(form: &LineForm) -> u8
     }
 }
 
-/// The version that the form of a header gives, or the rule that a first line of another form breaks.
+/// The version of a header, or the rule that a first line with another form breaks.
 fn version_told(form: &LineForm) -> Result<u8, u8>
     ensures { TellsVersion form.now result }
 {
@@ -61,7 +61,7 @@ fn version_told(form: &LineForm) -> Result<u8, u8>
     }
 }
 
-/// The same, of an owned form.
+/// The same for an owned form.
 fn version_in(form: LineForm) -> Result<u8, u8>
     ensures { TellsVersion form result }
 {
@@ -70,7 +70,7 @@ fn version_in(form: LineForm) -> Result<u8, u8>
     told
 }
 
-/// The version that the first line gives which is not blank.
+/// The version that a text's first line which is not blank gives.
 fn version_of(alloc: Global, line: &[u8], number: u32) -> Result<u8, TextFault>
     requires { IsWritten line.now }
     ensures { AnswersAt number (FirstGives line.now) result }
@@ -86,7 +86,7 @@ fn version_of(alloc: Global, line: &[u8], number: u32) -> Result<u8, TextFault>
     }
 }
 
-/// Whether a text of the version has the form.
+/// Whether a text of the version may have the form.
 fn is_form_of(version: u8, form: &LineForm) -> bool
     ensures holds { result ≡ true → IsFormOf version form.now }
     ensures fails { result ≡ false → IsFormOf version form.now → ⊥ }
@@ -98,7 +98,7 @@ fn is_form_of(version: u8, form: &LineForm) -> bool
     }
 }
 
-/// The form of a line in a text of the version.
+/// The form of a line in a text of the version. `NoForm` where it has none that the version allows.
 fn form_in(alloc: Global, line: &[u8], version: u8) -> Result<LineForm, Unread>
     ensures { ReadsAs result (FormIn version line.now) }
 {
@@ -111,7 +111,7 @@ fn form_in(alloc: Global, line: &[u8], version: u8) -> Result<LineForm, Unread>
     }
 }
 
-/// What is told of a line that gives nothing by a rule.
+/// The fault for a line that could not be read: the rule, or that there is no memory.
 fn at_line(unread: Unread, line: u32, rule: u8) -> TextFault
     ensures { result ≡ fault_at unread line rule }
 {
@@ -121,7 +121,7 @@ fn at_line(unread: Unread, line: u32, rule: u8) -> TextFault
     }
 }
 
-/// The system that a text says, and for each of its canonical lines the number, from 1, of the line of the text that it came
+/// The system of a text, and for each of its canonical lines the number, from 1, of the line of the text that it came
 /// from.
 #[derive(Debug, Drop)]
 pub struct ReadText {
@@ -129,7 +129,7 @@ pub struct ReadText {
     pub lines: List<u32>,
 }
 
-/// The draft with a line of the form more, and the group of this line. `NoForm` where it may not stand there.
+/// The draft with one more line of the form, and the group of this line. `NoForm` where it is not allowed there.
 fn and_group(alloc: Global, draft: Draft, form: LineForm) -> Result<(Draft, Option<Group>), Unread>
     ensures { Gives result (and_group draft form) }
 {
@@ -138,7 +138,7 @@ fn and_group(alloc: Global, draft: Draft, form: LineForm) -> Result<(Draft, Opti
     Ok((next, group))
 }
 
-/// The draft with a written line more, and the group of this line.
+/// The draft with one more line that is not blank, and the group of this line.
 fn with_written(
     alloc: Global,
     draft: Draft,
@@ -161,7 +161,7 @@ fn with_written(
     }
 }
 
-/// The draft with a line more, whatever it is, and its group, of which a blank line has none.
+/// The draft with one more line of any kind, and its group. A blank line has none.
 fn with_line(
     alloc: Global,
     draft: Draft,
@@ -180,7 +180,7 @@ fn with_line(
     }
 }
 
-/// What the lines of a text say, of which the last has this number.
+/// The system of all lines of a text, the last of which has this number. Rule 6 where a block is open.
 fn whole_text(
     alloc: Global,
     draft: Draft,
@@ -221,7 +221,7 @@ fn is_blank_text(text: &[u8]) -> bool
     true
 }
 
-/// The rule that a text of blank lines breaks at its first.
+/// The rule that a text of blank lines breaks at its first line.
 fn blank_rule(text: &[u8]) -> u8
     ensures { result ≡ blank_rule (source_lines text.now) }
 {
@@ -236,7 +236,7 @@ fn blank_rule(text: &[u8]) -> u8
     }
 }
 
-/// The version that the header of a text gives, the number of its line, and the text behind it.
+/// The version of a text's header, the number of its line, and the text after it.
 #[tactic(auto, using(text_tokens::proofs::LineLemmas::length_le_size_of, crate::proofs::ReadingLaws::blank_none, crate::proofs::ReadingLaws::blank_next, crate::proofs::ReadingLaws::blank_end))]
 fn header_of(alloc: Global, text: &[u8]) -> Result<(u8, u32, &[u8]), TextFault>
     requires { size_of text.now ≤ text_limit }
@@ -266,7 +266,7 @@ fn header_of(alloc: Global, text: &[u8]) -> Result<(u8, u32, &[u8]), TextFault>
     })
 }
 
-/// What a text says whose lines are not all blank.
+/// Reads a text whose lines are not all blank.
 #[tactic(auto, using(text_tokens::proofs::LineLemmas::length_le_size_of))]
 fn read_lines(alloc: Global, text: &[u8]) -> Result<ReadText, TextFault>
     requires short { size_of text.now ≤ text_limit }
@@ -287,10 +287,11 @@ fn read_lines(alloc: Global, text: &[u8]) -> Result<ReadText, TextFault>
     whole_text(alloc, draft, header, marks.as_slice(), number)
 }
 
-/// The system that a text says, with the lines that its canonical lines came from. It is in range, and printable.
+/// The system of a text, with the lines that its canonical lines came from. It is in range, and printable.
 ///
-/// Any other text is refused: one that is too long at line 1 by rule 2, and else at the first line that breaks a rule, by the
-/// least that it breaks; where only the end of a block lacks, at the last line by rule 6.
+/// Any other text is refused. A text that is too long is refused at line 1 by rule 2. Else it is refused at the first
+/// line that breaks a rule, by the least rule that this line breaks. Where only the end of a block is missing, it is
+/// refused at the last line by rule 6.
 #[tactic(auto, using(crate::proofs::ReadingLaws::long_refused, crate::proofs::ReadingLaws::blank_refused, crate::proofs::AnswersPrinted::read_printable))]
 pub fn read_system(alloc: Global, text: &[u8]) -> Result<ReadText, TextFault>
     ensures answer { AnswersText text.now result }

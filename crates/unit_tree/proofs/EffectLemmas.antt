@@ -12,7 +12,7 @@ use Rattle.unit_tree.specs.Effects.{Effect, stored, times}
 use Rattle.unit_tree.specs.declared.environment.Environment.{Environment}
 use Rattle.unit_tree.specs.declared.environment.Variable.{Variable}
 
--- Words behind others, where there was no fault.
+-- Words after other words, where there was no fault.
 abbrev pub behind : List ℤ → Result (List ℤ) Fault → Result (List ℤ) Fault
 behind front changed = changed >>= λ words. Ok (front ++ words)
 
@@ -44,7 +44,7 @@ stored-here variables words name word i variable within one_each is same fits =
     let old : drop i words ≡ get_or words i (pos 0) ∷ drop (suc i) words = drop-cons words i (pos 0) within_words in
     rw (first, old, same, fits) (ap (λ all. Ok all) (sym (set_split words i word within_words)))
 
--- Nothing else than a word of its type is stored for the first variable of the name.
+-- The first variable of the name gets only words of its type.
 pub stored-refused : (variables : List Variable) (words : List ℤ) (name : List ℕ) (word : ℤ) (i : ℕ) (variable : Variable) → i < length variables
     → length words ≡ length variables → variable ≡ get_or variables i variable → bytes_eq variable.name name ≡ true → is_word_of variable.ty word ≡ false
     → behind (take i words) (stored (drop i variables) (drop i words) name word) ≡ Err Range
@@ -54,7 +54,7 @@ stored-refused variables words name word i variable within one_each is same outs
     let old : drop i words ≡ get_or words i (pos 0) ∷ drop (suc i) words = drop-cons words i (pos 0) within_words in
     rw (first, old, same, outside) refl
 
--- Of the times that are left, one comes now.
+-- One of the repetitions that are left is done now.
 pub times_next : (count done : ℕ) (effect : Effect) (env : Environment) → done < count
     → times (count - done) effect env ≡ (effect env >>= times (count - (done + 1)) effect)
 times_next count done effect env more =

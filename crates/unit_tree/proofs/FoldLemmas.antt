@@ -1,4 +1,4 @@
--- What a fold makes of one node of a tree: what its step gives for what it makes of the parts.
+-- The result of a fold at one node of a tree, from its results for the parts.
 use Rattle.std.proofs.Common.{◌≡◌, ℕ, ℤ, Bool, List, Option, Some, None, map, sym, ap, ◌∙◌}
 use Rattle.std.specs.Option.{option_map}
 use Rattle.unit_tree.specs.declared.expr.BinOp.{BinOp}
@@ -82,5 +82,5 @@ fold-Repeat A step count body = ap (fold-Line A step) (sym (rolls-Repeat count b
 pub fold-Accept : (A : Type 0) (step : Line-F A → A) (value : Expr) → fold-Line A step (line.Accept value) ≡ step (Line-F.Accept value)
 fold-Accept A step value = ap (fold-Line A step) (sym (rolls-Accept value)) ∙ fold-roll-Line A step (Line-F.Accept value)
 
--- What takes folds of expressions and lines apart down to their leaves.
+-- The laws that unfold folds of expressions and lines down to their leaves.
 pub ruleset fold_laws = (expr_lemmas, line_lemmas)

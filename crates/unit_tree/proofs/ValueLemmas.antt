@@ -15,7 +15,7 @@ value_of_name-later variables words name i variable within one_each is other =
     let word : drop i words ≡ get_or words i (pos 0) ∷ drop (suc i) words = drop-cons words i (pos 0) within_words in
     rw (first, word, other, add-one) refl
 
--- What holds of the types of variables holds of those behind the first.
+-- What is true of the types of all variables is true of those after the first.
 pub AreTyped-later : (variables : List Variable) (i : ℕ) (variable : Variable) → i < length variables → AreTyped (drop i variables)
     → AreTyped (drop (i + 1) variables)
 AreTyped-later variables i variable within typed =

@@ -1,4 +1,4 @@
--- Blocks: which are open behind lines, and which lines may stand there.
+-- Blocks: which are open after given lines, and which lines are allowed there.
 use Rattle.std.specs.Prelude.{Bool, true, false, not, ◌&&◌, nat_lt, List, [], ◌∷◌, ◌++◌, drop, if◌then◌else◌}
 use Rattle.std.specs.List.{fold, list_any, count_by}
 use Rattle.model_rules.specs.Limits.{block_limit}
@@ -6,7 +6,7 @@ use Rattle.unit_tree.specs.LineForms.{are_alike}
 use Rattle.unit_tree.specs.declared.line_form.LineForm.{LineForm}
 use Rattle.unit_tree.specs.declared.line_form.LineForm.TheVariants as form
 
--- A block that is open. Of an `if` it is known whether its `else` has come.
+-- A block that is open. For an `if` it is known whether its `else` has come.
 pub data Block : Type 0 where
   InUnit : Block
   InStep : Block
@@ -15,7 +15,7 @@ pub data Block : Type 0 where
   InRepeat : Block
   InInstance : Block
 
--- The open blocks with one line more, the innermost first.
+-- The open blocks after one more line, the innermost first.
 abbrev pub behind : List Block → LineForm → List Block
 behind blocks (form.Unit name) = InUnit ∷ blocks
 behind blocks form.Step = InStep ∷ blocks
@@ -26,13 +26,14 @@ behind blocks (form.Instance name unit) = InInstance ∷ blocks
 behind blocks form.End = drop 1 blocks
 behind blocks _ = blocks
 
--- ---- Where a line stands
+-- ---- The lines before a line
 
 abbrev pub opens_unit : LineForm → Bool
 opens_unit (form.Unit name) = true
 opens_unit _ = false
 
--- What a line stands behind: the open blocks, the innermost first; the lines since the last `unit`; and all lines.
+-- What comes before a line: the blocks that are open there, the innermost first; the lines since the last `unit`;
+-- and all lines.
 pub record Before : Type 0 where
   pub open_blocks : List Block
   pub in_unit : List LineForm
@@ -41,7 +42,7 @@ pub record Before : Type 0 where
 abbrev pub no_lines : Before
 no_lines = record { open_blocks = []; in_unit = []; in_text = [] }
 
--- One line more.
+-- The same after one more line.
 abbrev pub and_line : Before → LineForm → Before
 and_line before line = record {
   open_blocks = behind before.open_blocks line;
@@ -52,7 +53,7 @@ and_line before line = record {
 abbrev pub and_lines : Before → List LineForm → Before
 and_lines before lines = fold and_line before lines
 
--- The blocks that lines leave open.
+-- The blocks that are open after these lines.
 abbrev pub open_blocks : List LineForm → List Block
 open_blocks lines = (and_lines no_lines lines).open_blocks
 
@@ -70,7 +71,7 @@ abbrev pub in_instance : List Block → Bool
 in_instance (InInstance ∷ blocks) = true
 in_instance _ = false
 
--- Step lines stand in a `step`, and in the blocks of `if` and `repeat` in it.
+-- Step lines are allowed in a `step`, and in the blocks of `if` and `repeat` inside it.
 abbrev pub in_step : List Block → Bool
 in_step (InStep ∷ blocks) = true
 in_step (InIf ∷ blocks) = true
@@ -82,7 +83,7 @@ abbrev pub lacks_else : List Block → Bool
 lacks_else (InIf ∷ blocks) = true
 lacks_else _ = false
 
--- The innermost block holds lines of the form.
+-- The innermost open block may have lines of the form.
 abbrev pub holds_form : List Block → LineForm → Bool
 holds_form blocks (form.Resolution decimals) = in_unit blocks
 holds_form blocks (form.Param param) = in_unit blocks
@@ -103,10 +104,10 @@ holds_form blocks (form.Accept value) = in_step blocks
 holds_form blocks (form.Setting setting) = in_instance blocks
 holds_form blocks _ = at_top blocks
 
--- ---- Lines that stand once
+-- ---- Lines that occur at most once
 
--- The lines before a line of which none may be like it: `resolution`, `max` and `step` stand once in a unit, and the
--- header, `stop`, `longest`, `zero` and `rows` once in a text.
+-- The lines before a line none of which may begin with the same keyword: `resolution`, `max` and `step` occur at
+-- most once in a unit, and the header, `stop`, `longest`, `zero` and `rows` at most once in a text.
 abbrev pub rivals : Before → LineForm → List LineForm
 rivals before (form.Resolution decimals) = before.in_unit
 rivals before (form.Max value) = before.in_unit
@@ -129,18 +130,18 @@ is_inner InElse = true
 is_inner InRepeat = true
 is_inner _ = false
 
--- `if` and `repeat` stand in at most fifteen open blocks of `if` and `repeat`.
+-- An `if` or a `repeat` is inside at most fifteen open blocks of `if` and `repeat`.
 abbrev pub has_room : List Block → LineForm → Bool
 has_room blocks (form.If cond) = nat_lt (count_by is_inner blocks) block_limit
 has_room blocks (form.Repeat count) = nat_lt (count_by is_inner blocks) block_limit
 has_room blocks _ = true
 
--- The line may stand there.
+-- The line is allowed after those before it.
 abbrev pub may_stand : Before → LineForm → Bool
 may_stand before line =
     holds_form before.open_blocks line && (not (has_rival before line) && has_room before.open_blocks line)
 
--- Each line may stand behind those before it.
+-- Each line is allowed after those before it.
 abbrev pub are_placed : Before → List LineForm → Bool
 are_placed before [] = true
 are_placed before (line ∷ lines) = may_stand before line && are_placed (and_line before line) lines

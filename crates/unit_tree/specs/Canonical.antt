@@ -1,4 +1,4 @@
--- Canonical text: of all the texts that say a system, the one that a printer writes.
+-- Canonical text: of all texts with the same system, the one that the printer writes.
 use Rattle.std.specs.Prelude.{ℕ, Bool, false, ◌&&◌, if◌then◌else◌, unsigned_abs, List, [], ◌∷◌, ◌++◌, map, Option, Some, None}
 use Rattle.std.specs.Int.{is_negative}
 use Rattle.std.specs.List.{flat_map, last_or}
@@ -58,11 +58,12 @@ canonical_forms system = text_forms system.version (canonical_parts system)
 
 -- ---- Tokens
 
--- An expression in a place that asks for a level: in parentheses exactly where its own level is weaker.
+-- An expression where the grammar requires a level: in parentheses exactly where its own level is
+-- weaker.
 abbrev pub placed : Level → Phrase → Phrase
 placed asked inner = if allows asked (level_of inner) then inner else phrase.Parens inner
 
--- One node, with the canonical phrase of each part in its place.
+-- One node, whose parts are given as their canonical phrases.
 abbrev pub node_phrase : Expr-F Phrase → Phrase
 node_phrase (Expr-F.Number number decimals) = phrase.Number (unsigned_abs number) decimals
 node_phrase (Expr-F.Truth told) = phrase.Truth told
@@ -77,14 +78,14 @@ node_phrase (Expr-F.Choose cond then_part else_part) = phrase.Choose cond then_p
 node_phrase Expr-F.Absent = phrase.Absent
 node_phrase (Expr-F.Present name) = phrase.Present name
 
--- How an expression is written with no needless parentheses. Its numbers are not negative.
+-- How an expression is written without needless parentheses. Its numbers are not negative.
 abbrev pub canonical_phrase : Expr → Phrase
 canonical_phrase = fold-Expr Phrase node_phrase
 
 abbrev pub expression_tokens : Expr → List Token
 expression_tokens value = phrase_tokens (canonical_phrase value)
 
--- A literal: `-` stands in front of negative numbers alone.
+-- A literal: only a negative number has a `-` before it.
 abbrev pub literal_tokens : Literal → List Token
 literal_tokens (literal.Truth told) = keyword (truth_word told) ∷ []
 literal_tokens (literal.Number number decimals) =
@@ -102,7 +103,7 @@ form_tokens some = front_tokens some ++ tail_tokens (tail_of some)
 
 -- ---- Bytes
 
--- A token: a number with no needless leading zero and with all of its decimals.
+-- The text of a token. A number has no needless leading zero, and all of its decimals.
 abbrev pub token_text : Token → List ℕ
 token_text (token.Keyword spelled) = keyword_text spelled
 token_text (token.Name name) = name
@@ -116,7 +117,8 @@ ends_in_word text = meets (last_or None text)
     meets None = false
     meets (Some byte) = is_word_byte byte
 
--- Two texts in a row, with one space exactly where letters, digits or `_` would meet.
+-- Two texts, the one after the other, with one space exactly where letters, digits or `_` would be next
+-- to each other.
 abbrev pub spaced : List ℕ → List ℕ → List ℕ
 spaced text others = if ends_in_word text && begins_with is_word_byte others then text ++ (32 ∷ others) else text ++ others
 
@@ -128,6 +130,6 @@ tokens_text (first ∷ others) = spaced (token_text first) (tokens_text others)
 abbrev pub line_text : LineForm → List ℕ
 line_text some = tokens_text (form_tokens some)
 
--- The canonical text of a system: its canonical lines, each ended by LF.
+-- The canonical text of a system: its canonical lines, each with a LF at its end.
 abbrev pub canonical_text : System → List ℕ
 canonical_text system = flat_map (λ some. line_text some ++ (10 ∷ [])) (canonical_forms system)

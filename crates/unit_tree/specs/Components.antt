@@ -29,8 +29,8 @@ abbrev pub or_zero : {E : Type 0} → Result ℤ E → ℤ
 or_zero (Ok word) = word
 or_zero (Err fault) = pos 0
 
--- The start word that is declared by a literal. Where the literal has no word of the type it is 0; no
--- such system is run.
+-- The start word of a declaration with a literal. Where the literal has no word of the type it is 0; such
+-- a system is never run.
 abbrev pub start_word : Ty → Literal → ℤ
 start_word ty literal = or_zero (word_of_literal ty literal)
 
@@ -50,12 +50,12 @@ variables_of unit =
     ++ map (λ input. variable input.name input.ty) unit.inputs
     ++ map (λ local. variable local.name local.ty) unit.locals
 
--- The words that they have: locals begin at 0.
+-- The words of these variables. The word of each local is 0 at first.
 abbrev pub words_of : Component → List ℤ → List ℤ → List ℤ
 words_of component state inputs = component.params ++ state ++ inputs ++ map (λ local. pos 0) component.unit.locals
 
--- What an expression or a step sees at a local time, for a local step, which is accepted until a line
--- accepts another.
+-- What an expression or a step can read at a local time, for a local step. The whole local step is
+-- accepted until a line accepts another length.
 abbrev pub environment_of : Component → List ℤ → List ℤ → ℕ → ℕ → Environment
 environment_of component state inputs time step = record {
   variables = variables_of component.unit;
@@ -65,7 +65,7 @@ environment_of component state inputs time step = record {
   accepted = step;
 }
 
--- A word that is given as one of the type; Range where it is none.
+-- A word as one of the type; the fault Range where it is not.
 abbrev pub given_as : Ty → Value → Outcome
 given_as ty value = if is_word_of ty value.word then Ok value.word else Err Range
 
@@ -74,11 +74,11 @@ abbrev pub get_of : Component → List ℤ → List ℤ → Output → Outcome
 get_of component state inputs output =
     value_of output.value (environment_of component state inputs 0 0) >>= given_as output.ty
 
--- A greatest step: a number from 0 up.
+-- The result of `max` as a limit: a number from 0 up, or the fault Max.
 abbrev pub as_limit : Value → Result (Option ℕ) Fault
 as_limit value = if is_negative value.word then Err Max else Ok (Some (unsigned_abs value.word))
 
--- max: the longest step that the component will accept at a local time, in local ticks; none is no limit.
+-- max: the longest step that the component accepts at a local time, in local ticks; `None` is no limit.
 abbrev pub limit_by : Option Expr → Environment → Result (Option ℕ) Fault
 limit_by None env = Ok None
 limit_by (Some limit) env = value_of limit env >>= as_limit
@@ -91,11 +91,11 @@ pub record Moved : Type 0 where
   pub state : List ℤ
   pub accepted : ℕ
 
--- The words that the states have in an environment: those behind the parameters'.
+-- The words of the states in an environment: those that follow the parameters' words.
 abbrev pub state_in : Component → Environment → List ℤ
 state_in component env = take (length component.unit.states) (drop (length component.params) env.words)
 
--- doStep by lines; without them the state stays and the whole step is accepted.
+-- doStep by its lines. Without lines the state stays and the whole step is accepted.
 abbrev pub moved_by : Option (List Line) → Component → List ℤ → Environment → Result Moved Fault
 moved_by None component state env = Ok (record { state = state; accepted = env.step })
 moved_by (Some lines) component state env =

@@ -1,5 +1,5 @@
--- What is run: the instances of a system as components, each with its clock, and where the word of each of its
--- inputs comes from. Names are resolved here, and nowhere below.
+-- Compositions, which are what is run: the instances of a system as components, each with its clock and with the
+-- source of each of its inputs. Names are resolved here; the definitions after this one use numbers.
 use Rattle.std.specs.Prelude.{◌≡◌, ◌≤◌, ℕ, ◌==◌, ◌-◌, ◌/◌, ◌^◌, min, ℤ, List, [], ◌∷◌, map, length, if◌then◌else◌, Option, Some, None}
 use Rattle.std.specs.List.{AllByRecursion, filter_map, position_or_len}
 use Rattle.std.specs.Option.{unwrap_or}
@@ -33,14 +33,15 @@ pub record Member : Type 0 where
   pub factor : ℕ
   pub sources : List InputSource
 
--- A local tick is one of the system at least, each parameter has a word, and each input a source.
+-- A local tick is at least one tick of the system. Each parameter has a word, and each input a source.
 pub record IsMember (member : Member) : Type 0 where
   pub factor : 1 ≤ member.factor
   pub params : length member.component.params ≡ length member.component.unit.params
   pub sources : length member.sources ≡ length member.component.unit.inputs
 
--- Members, where their run ends, the longest step that it makes, both in ticks, how many steps of length zero may
--- follow each other, and how many rows there may be.
+-- A composition: its members, the stop, the longest step, the zero budget (how many steps of length zero may
+-- follow each other), and the row budget (how many rows there may be). The stop and the longest step are in
+-- ticks.
 pub record Composition : Type 0 where
   pub members : List Member
   pub stop : ℕ
@@ -53,7 +54,7 @@ AreMembers run = AllByRecursion IsMember run.members
 
 -- ---- The composition of a system
 
--- The literal that a parameter has in an instance: the first that is set there, else its start.
+-- The literal of a parameter in an instance: the first that the instance sets, else the start of the parameter.
 abbrev pub literal_set : List Setting → Param → Literal
 literal_set [] param = param.start
 literal_set (setting ∷ settings) param = if bytes_eq setting.name param.name then setting.value else literal_set settings param
@@ -66,7 +67,7 @@ component_with settings unit =
 abbrev pub place_of : System → PortName → ℕ
 place_of system port = position_or_len (same_port port) (outputs_of system)
 
--- The source of an input, from the outputs that are connected to it. More than one is in no system that is run.
+-- The source of an input, given the outputs that are connected to it. No system that is run has more than one.
 abbrev pub source_from : System → Input → List PortName → InputSource
 source_from system input [] = Start (start_word input.ty input.start)
 source_from system input (port ∷ others) = AtPlace (place_of system port)
@@ -90,8 +91,8 @@ member_with system instance (Some unit) = Some (record {
 abbrev pub members_of : System → List Member
 members_of system = filter_map (λ instance. member_with system instance (unit_of_instance system instance)) system.instances
 
--- A number of seconds in ticks of the system, or the default where none is given. Where it is no whole number of
--- ticks it is 0; no such system is run.
+-- A number of seconds in ticks of the system, or the default where none is given. Where it is not a whole number
+-- of ticks it is 0; such a system is never run.
 abbrev pub ticks_or : ℕ → ℕ → Option Literal → ℕ
 ticks_or default resolution None = default
 ticks_or default resolution (Some seconds) = unwrap_or (ticks_in resolution seconds) 0
@@ -106,11 +107,11 @@ default_zeros version = if version == 2 then 1000 else 100
 abbrev pub default_rows : ℕ → ℕ → ℕ
 default_rows version instances = min (if version == 2 then 10000 else 100000) (cell_limit / instances)
 
--- A system without event ports, as the plain form of every system in range is.
+-- A system without event ports. The plain form of every system in range is one.
 abbrev pub HasNoEvents : System → Type 0
 HasNoEvents system = AllByRecursion (λ unit. (unit.events_in ≡ []) × (unit.events_out ≡ [])) system.units
 
--- What is run of a system without event ports. `longest` is `stop` where it is not given.
+-- What is run for a system without event ports. `longest` is `stop` where it is not given.
 abbrev pub composition_of : System → Composition
 composition_of system = record {
   members = members_of system;
@@ -120,6 +121,6 @@ composition_of system = record {
   row_budget = unwrap_or system.rows (default_rows system.version (length system.instances));
 }
 
--- What is run of any system: its plain form.
+-- What is run for any system: the composition of its plain form.
 abbrev pub run_of : System → Composition
 run_of system = composition_of (plain_form system)

@@ -1,5 +1,5 @@
--- Static cost: a number that a call has by the structure of its trees, where repeated lines count as often as they
--- are repeated.
+-- Static cost: a number for each call that is computed from its trees alone, without running it. Lines in a
+-- `repeat` count as often as they are repeated.
 use Rattle.std.specs.Prelude.{ℕ, ◌+◌, ◌*◌, List, map, Option, Some, None}
 use Rattle.std.specs.List.{sum}
 use Rattle.unit_tree.specs.declared.expr.Expr.{Expr, fold-Expr}
@@ -7,8 +7,8 @@ use Rattle.unit_tree.specs.declared.expr.Expr.TheOpen.{Expr-F}
 use Rattle.unit_tree.specs.declared.line.Line.{Line, fold-Line}
 use Rattle.unit_tree.specs.declared.line.Line.TheOpen.{Line-F}
 
--- One node, with the cost of each part in its place: a leaf is 1, an operation or a call its operands and 1,
--- and both choices of an `if` count.
+-- One node, whose parts are given as their costs: a leaf is 1; an operation or a call is the sum of its operands
+-- and 1; an `if` is the sum of its condition and both choices, and 2.
 abbrev pub node_cost : Expr-F ℕ → ℕ
 node_cost (Expr-F.Unary op arg) = arg + 1
 node_cost (Expr-F.Binary op left right) = left + right + 1
@@ -24,8 +24,8 @@ abbrev pub else_cost : Option (List ℕ) → ℕ
 else_cost None = 0
 else_cost (Some lines) = 1 + sum lines
 
--- One line, with the cost of each line of its blocks in its place. The body of `repeat` counts as often as it
--- is repeated, and 1 more each time.
+-- One line, where the lines of its blocks are given as their costs. The body of `repeat` counts as often as it is
+-- repeated, with 1 more each time.
 abbrev pub part_cost : Line-F ℕ → ℕ
 part_cost (Line-F.Assign target value) = cost_of value + 1
 part_cost (Line-F.If cond then_lines else_lines) = cost_of cond + 1 + sum then_lines + else_cost else_lines

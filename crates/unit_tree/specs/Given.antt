@@ -1,4 +1,4 @@
--- What components with words for their inputs give: the meaning of calls on them by numbers.
+-- The outputs of components with given words for their inputs: the meaning of calls by numbers.
 use Rattle.std.specs.Prelude.{◌≡◌, ℕ, true, ℤ, List, [], slice_get, slice_set, slice_index_or, Option, Some}
 use Rattle.std.specs.Option.{option_map, option_and_then}
 use Rattle.fixed_words.specs.Operations.{Outcome}
@@ -7,13 +7,13 @@ use Rattle.unit_tree.specs.Components.{get_of}
 use Rattle.unit_tree.specs.Compositions.{Composition}
 use Rattle.unit_tree.specs.declared.unit.Input.{Input}
 
--- The input of some number at an instance.
+-- The input of an instance with this number.
 abbrev pub input_numbered : Composition → ℕ → ℕ → Option Input
 input_numbered run instance number =
     option_and_then (λ member. slice_get member.component.unit.inputs number) (slice_get run.members instance)
 
--- What the output of some number gives of an instance's state and the words of its inputs. It is there where the
--- instance with its state and words is, and the output.
+-- The result of get for the output with this number, from the instance's state and the words of its inputs. It
+-- is `None` where there is no such instance, state or output.
 abbrev pub given_by : Composition → List (List ℤ) → List (List ℤ) → ℕ → ℕ → Option Outcome
 given_by run states inputs instance number =
     option_and_then (λ member.
@@ -24,7 +24,7 @@ given_by run states inputs instance number =
     (slice_get states instance))
     (slice_get run.members instance)
 
--- The input is there, and the word is one of its type.
+-- There is such an input, and the word is one of its type.
 pub record IsInputWord (run : Composition) (instance number : ℕ) (word : ℤ) : Type 0 where
   pub input : Input
   pub is_there : input_numbered run instance number ≡ Some input

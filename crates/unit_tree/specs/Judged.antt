@@ -1,4 +1,4 @@
--- What a judged system keeps.
+-- What is known of a judged system.
 use Rattle.std.specs.Prelude.{◌≡◌}
 use Rattle.unit_tree.specs.Plain.{plain_form}
 use Rattle.unit_tree.specs.Printable.{IsRanged}
@@ -9,7 +9,7 @@ use Rattle.unit_tree.specs.declared.system.System.{System}
 abbrev pub source_of : Inside → System
 source_of judged = judged.source
 
--- It is in range and well-formed, and what is kept beside it is its plain form.
+-- The system is in range and well-formed, and the system that is kept with it is its plain form.
 pub record IsJudged (judged : Inside) : Type 0 where
   pub ranged : IsRanged judged.source
   pub well_formed : IsWellFormed judged.source

@@ -1,5 +1,5 @@
--- Kinds: which kinds the operands of an operation have to have, and which one it then gives. An expression has no
--- kind where an operand in it has a wrong one.
+-- Kinds: which kinds the operands of an operation must have, and which kind it gives. An expression has no kind where
+-- an operand in it has a wrong one.
 use Rattle.std.specs.Prelude.{ℕ, Bool, true, false, ◌&&◌, nat_eq, List, Option, Some, None, if◌then◌else◌}
 use Rattle.std.specs.List.{list_all, flat_map}
 use Rattle.std.specs.Option.{option_and_then}
@@ -17,7 +17,7 @@ use Rattle.unit_tree.specs.declared.line.Line.{Line}
 use Rattle.unit_tree.specs.declared.line_form.LineForm.{LineForm}
 use Rattle.unit_tree.specs.declared.line_form.LineForm.TheVariants as form
 
--- Whether two kinds are one. Int and fixed point without decimals are two.
+-- Whether two kinds are equal. Int and fixed point without decimals are different kinds.
 abbrev pub same_kind : Kind → Kind → Bool
 same_kind Int Int = true
 same_kind Truth Truth = true
@@ -32,7 +32,7 @@ abbrev pub is_fixed : Kind → Bool
 is_fixed (Fixed decimals) = true
 is_fixed _ = false
 
--- The kind, where the test holds.
+-- The kind if the test holds, else none.
 abbrev pub where_holds : Bool → Kind → Option Kind
 where_holds test kind = if test then Some kind else None
 
@@ -57,14 +57,14 @@ binary_kind by.And x y = where_holds (same_kind x Truth && same_kind y Truth) Tr
 binary_kind by.Or x y = where_holds (same_kind x Truth && same_kind y Truth) Truth
 binary_kind _ x y = where_holds (same_kind x y && is_number x) x
 
--- The kinds of names, where they are declared.
+-- The kind of each name; `None` for a name that is not declared.
 abbrev pub KindsOfNames : Type 0
 KindsOfNames = List ℕ → Option Kind
 
 abbrev pub Kinding : Type 0
 Kinding = KindsOfNames → Option Kind
 
--- One node, with the kind of each part in its place. `absent` has no kind of its own.
+-- One node, whose parts are given as their kinds. `absent` has no kind of its own.
 abbrev pub node_kind : Expr-F Kinding → Kinding
 node_kind (Expr-F.Number word decimals) names = Some (kind_of_number decimals)
 node_kind (Expr-F.Truth told) names = Some Truth
@@ -85,33 +85,33 @@ node_kind (Expr-F.Choose cond then_part else_part) names =
 node_kind Expr-F.Absent names = None
 node_kind (Expr-F.Present name) names = Some Truth
 
--- The kind of an expression, where each operand has the kind that its operation asks for.
+-- The kind of an expression, where each operand has the kind that its operation requires.
 abbrev pub kind_of_expression : Expr → Kinding
 kind_of_expression = fold-Expr Kinding node_kind
 
 -- ---- Step lines
 
--- Whether there are two kinds and they are one. A name that is not declared has none.
+-- Whether both kinds are there and are equal. A name that is not declared has no kind.
 abbrev pub is_of_kind : Option Kind → Option Kind → Bool
 is_of_kind (Some x) (Some y) = same_kind x y
 is_of_kind _ _ = false
 
--- Whether lines have the right kinds, for the kinds of names.
+-- A test of whether lines have the right kinds, given the kinds of names.
 abbrev pub KindTest : Type 0
 KindTest = KindsOfNames → Bool
 
--- Whether an expression has the kind that is asked for, and each operand in it the kind that its operation asks for.
+-- Whether an expression has the required kind, and each operand in it the kind that its operation requires.
 abbrev pub has_kind : Option Kind → Expr → KindTest
 has_kind asked value names = is_of_kind (kind_of_expression value names) asked
 
--- Whether a step line has the right kinds: the value of an assignment its target's kind, a condition Bool, and what is
--- accepted Int.
+-- Whether a step line has the right kinds: the value of an assignment has its target's kind, a condition is Bool, and
+-- an accepted length is Int.
 abbrev pub line_is_kinded : LineForm → KindTest
 line_is_kinded (form.Assign target value) names = has_kind (names target) value names
 line_is_kinded (form.If cond) names = has_kind (Some Truth) cond names
 line_is_kinded (form.Accept value) names = has_kind (Some Int) value names
 line_is_kinded _ names = true
 
--- Whether every line of a step has the right kinds, those of its blocks too.
+-- Whether every line of a step has the right kinds, also the lines of its blocks.
 abbrev pub lines_are_kinded : List Line → KindTest
 lines_are_kinded lines names = list_all (λ line. line_is_kinded line names) (flat_map line_forms lines)

@@ -3,7 +3,7 @@ use Rattle.unit_tree.specs.Phrases as phrases
 use Rattle.unit_tree.specs.declared.levels.Level.{Level}
 use Rattle.unit_tree.specs.declared.levels.Level.TheVariants as level
 
--- The level of the grammar that a level of the code is.
+-- The level of the grammar that corresponds to a level of the code.
 abbrev pub grammar_level : Level → phrases.Level
 grammar_level level.Whole = phrases.Whole
 grammar_level level.Or = phrases.Or

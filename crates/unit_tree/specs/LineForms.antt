@@ -22,9 +22,9 @@ use Rattle.unit_tree.specs.declared.token.Symbol.TheVariants as sign
 use Rattle.unit_tree.specs.declared.token.Token.{Token}
 use Rattle.unit_tree.specs.declared.token.Token.TheVariants as token
 
--- ---- The front of a line
+-- ---- The beginning of a line
 
--- A type by its name, which is no reserved word.
+-- A type by its name, which is not a reserved word.
 abbrev pub type_tokens : Ty → List Token
 type_tokens types.Int8 = token.Name (codes "Int8") ∷ []
 type_tokens types.UInt8 = token.Name (codes "UInt8") ∷ []
@@ -40,17 +40,17 @@ type_tokens (types.Fixed decimals) = token.Name (codes "Fixed") ∷ whole decima
 abbrev pub port_tokens : PortName → List Token
 port_tokens port = token.Name port.instance ∷ symbol sign.Point ∷ token.Name port.port ∷ []
 
--- `p : T`, behind a keyword.
+-- `p : T`, after a keyword.
 abbrev pub declaration : Keyword → List ℕ → Ty → List Token
 declaration declared name ty = keyword declared ∷ token.Name name ∷ symbol sign.Colon ∷ type_tokens ty
 
--- Names with a comma between any two.
+-- Names, with a comma between neighbours.
 abbrev pub names_tokens : List (List ℕ) → List Token
 names_tokens [] = []
 names_tokens (name ∷ []) = token.Name name ∷ []
 names_tokens (name ∷ next ∷ names) = token.Name name ∷ symbol sign.Comma ∷ names_tokens (next ∷ names)
 
--- `needs u, v`; nothing where nothing is needed.
+-- `needs u, v`; no tokens where there are no needs.
 abbrev pub needs_tokens : List (List ℕ) → List Token
 needs_tokens [] = []
 needs_tokens (name ∷ names) = keyword word.Needs ∷ names_tokens (name ∷ names)
@@ -58,7 +58,7 @@ needs_tokens (name ∷ names) = keyword word.Needs ∷ names_tokens (name ∷ na
 abbrev pub equals : List Token
 equals = symbol sign.Is ∷ []
 
--- The tokens of a form in front of its literal or expression; all of them where it has none.
+-- The tokens of a form before its literal or expression; all its tokens where it has none.
 abbrev pub front_tokens : LineForm → List Token
 front_tokens (form.Header version) = keyword word.Cosim ∷ whole version ∷ []
 front_tokens (form.Unit name) = keyword word.Unit ∷ token.Name name ∷ []
@@ -92,13 +92,13 @@ abbrev pub first_keyword : List Token → List ℕ
 first_keyword (token.Keyword spelled ∷ tokens) = keyword_text spelled
 first_keyword _ = []
 
--- Lines are alike where they begin with the same keyword. Those that begin with a name are all alike.
+-- Whether two lines begin with the same keyword. Lines that begin with a name count as having the same one.
 abbrev pub are_alike : LineForm → LineForm → Bool
 are_alike one other = bytes_eq (first_keyword (front_tokens one)) (first_keyword (front_tokens other))
 
--- ---- The tail of a line
+-- ---- The end of a line
 
--- What a form ends with: nothing more, a literal, a number of seconds, which has no sign, or an expression.
+-- What a form ends with: nothing more, a literal, a number of seconds (which has no sign), or an expression.
 pub data Tail : Type 0 where
   Nothing : Tail
   OfLiteral : Literal → Tail
@@ -120,12 +120,12 @@ tail_of (form.If cond) = OfExpression cond
 tail_of (form.Accept value) = OfExpression value
 tail_of _ = Nothing
 
--- `-` in front of a negative number, which may also stand in front of 0.
+-- `-` before a negative number. It may also be before 0.
 abbrev pub sign_tokens : Bool → List Token
 sign_tokens negative = if negative then symbol sign.Minus ∷ [] else []
 
--- The tokens write a number with or without a sign, by the word of all its digits and how many stand behind
--- the point.
+-- The tokens write a number with or without a sign: `number` is the word of all its digits, and `decimals` is how
+-- many of them follow the point.
 pub record WritesNumber (number : ℤ) (decimals : ℕ) (tokens : List Token) : Type 0 where
   pub negative : Bool
   pub digits : ℕ
@@ -153,7 +153,7 @@ WritesTail (OfExpression value) tokens = Writes value tokens
 
 -- ---- Lines
 
--- The version, the count, the resolution and the decimals of the type on a line are those that the language allows.
+-- The version, the count, the resolution and the decimals of the type on a line are in the ranges of the language.
 abbrev pub AreCountsInRange : LineForm → Type 0
 AreCountsInRange (form.Header version) = (1 ≤ version) × (version ≤ 2)
 AreCountsInRange (form.Resolution decimals) = decimals ≤ decimals_limit
@@ -176,7 +176,7 @@ pub record WritesForm (some : LineForm) (tokens : List Token) : Type 0 where
   pub tail_is : WritesTail (tail_of some) tail
   pub counts : AreCountsInRange some
 
--- The line has the form: its code spells tokens that write it.
+-- The line has the form: its code spells tokens that write the form.
 pub record HasForm (form : LineForm) (line : List ℕ) : Type 0 where
   pub tokens : List Token
   pub spelled : Spells tokens (code_of line)
@@ -184,7 +184,7 @@ pub record HasForm (form : LineForm) (line : List ℕ) : Type 0 where
 
 -- ---- What version 2 adds
 
--- One node, with whether each part speaks of events.
+-- One node, where for each part it is given whether `absent` or `present` occurs in it.
 abbrev pub node_speaks_of_events : Expr-F Bool → Bool
 node_speaks_of_events (Expr-F.Unary op arg) = arg
 node_speaks_of_events (Expr-F.Binary op left right) = left || right
@@ -194,7 +194,7 @@ node_speaks_of_events Expr-F.Absent = true
 node_speaks_of_events (Expr-F.Present name) = true
 node_speaks_of_events _ = false
 
--- Whether `absent` or `present` stands in an expression.
+-- Whether `absent` or `present` occurs in an expression.
 abbrev pub speaks_of_events : Expr → Bool
 speaks_of_events = fold-Expr Bool node_speaks_of_events
 
@@ -202,8 +202,8 @@ abbrev pub tail_speaks_of_events : Tail → Bool
 tail_speaks_of_events (OfExpression value) = speaks_of_events value
 tail_speaks_of_events _ = false
 
--- Whether version 2 alone has the form: its own header, the lines of event ports, and those on which `absent` or
--- `present` stands.
+-- Whether only version 2 has the form: its own header, the lines of event ports, and lines with `absent` or
+-- `present`.
 abbrev pub is_of_version_2 : LineForm → Bool
 is_of_version_2 (form.Header version) = version == 2
 is_of_version_2 (form.EventInput event) = true

@@ -1,4 +1,4 @@
--- The names of a unit, which of them an expression may use where, and how deep an expression is.
+-- The names of a unit, which of them each expression may use, and how deep an expression is.
 use Rattle.std.specs.Prelude.{ℕ, suc, max, Bool, true, false, not, ◌&&◌, ◌||◌, List, [], ◌∷◌, ◌++◌, map, Option, Some, None, if◌then◌else◌}
 use Rattle.std.specs.List.{list_any, list_all, find}
 use Rattle.std.specs.Option.{option_map, option_and_then}
@@ -20,7 +20,7 @@ use Rattle.unit_tree.specs.declared.unit.Unit.{Unit}
 
 -- ---- Expressions
 
--- The names in an expression, those in `present` among them.
+-- The names in an expression, also those in `present`.
 abbrev pub node_names : Expr-F (List (List ℕ)) → List (List ℕ)
 node_names (Expr-F.Var name) = name ∷ []
 node_names (Expr-F.Unary op arg) = arg
@@ -45,7 +45,7 @@ node_events _ = []
 abbrev pub events_asked_in : Expr → List (List ℕ)
 events_asked_in = fold-Expr (List (List ℕ)) node_events
 
--- Which of the two clocks are used: `t`, and `h`.
+-- Which of the two clocks `t` and `h` an expression uses.
 pub record Clocks : Type 0 where
   pub time : Bool
   pub step : Bool
@@ -73,11 +73,11 @@ abbrev pub expression_in : Tail → Option Expr
 expression_in (OfExpression value) = Some value
 expression_in _ = None
 
--- The expression that stands on a line.
+-- The expression on a line, where it has one.
 abbrev pub expression_on : LineForm → Option Expr
 expression_on line = expression_in (tail_of line)
 
--- The depth of a tree: 1 for a leaf, and else one more than its deepest part.
+-- The depth of a tree: 1 for a leaf, else one more than its deepest part.
 abbrev pub node_depth : Expr-F ℕ → ℕ
 node_depth (Expr-F.Unary op arg) = suc arg
 node_depth (Expr-F.Binary op left right) = suc (max left right)
@@ -103,20 +103,20 @@ are_among names used = list_all (is_among names) used
 abbrev pub param_names : Unit → List (List ℕ)
 param_names unit = map (λ param. param.name) unit.params
 
--- A port of a unit: its type, whether it is an event port, and the inputs that it needs, where it is an output.
+-- A port of a unit: its type, whether it is an event port, and of an output the inputs in its needs.
 pub record Port : Type 0 where
   pub name : List ℕ
   pub ty : Ty
   pub is_event : Bool
   pub needs : List (List ℕ)
 
--- The inputs of a unit by declaration, in which event inputs come after the plain ones.
+-- The inputs of a unit in the order of declaration, with event inputs after the plain ones.
 abbrev pub input_ports : Unit → List Port
 input_ports unit =
     map (λ input. record { name = input.name; ty = input.ty; is_event = false; needs = [] }) unit.inputs
     ++ map (λ event. record { name = event.name; ty = event.ty; is_event = true; needs = [] }) unit.events_in
 
--- The outputs of a unit by declaration, in which event outputs come after the plain ones.
+-- The outputs of a unit in the order of declaration, with event outputs after the plain ones.
 abbrev pub output_ports : Unit → List Port
 output_ports unit =
     map (λ output. record { name = output.name; ty = output.ty; is_event = false; needs = output.needs }) unit.outputs
@@ -134,7 +134,7 @@ output_names unit = port_names (output_ports unit)
 abbrev pub event_input_names : Unit → List (List ℕ)
 event_input_names unit = map (λ event. event.name) unit.events_in
 
--- What an expression may use: names, event inputs in `present`, and perhaps `t` and `h`.
+-- What an expression may use: names, event inputs in `present`, and whether `t` and `h`.
 pub record Uses : Type 0 where
   pub names : List (List ℕ)
   pub events : List (List ℕ)
@@ -147,11 +147,11 @@ shared_names unit = param_names unit ++ map (λ state. state.name) unit.states +
 abbrev pub output_uses : Unit → Uses
 output_uses unit = record { names = shared_names unit; events = event_input_names unit; clocks = no_clock }
 
--- `max` may use these, and `t`.
+-- `max` may use the same, and `t`.
 abbrev pub max_uses : Unit → Uses
 max_uses unit = record { names = shared_names unit; events = event_input_names unit; clocks = record { time = true; step = false } }
 
--- A step may use these, locals, `t` and `h`.
+-- A step may use the same, locals, `t` and `h`.
 abbrev pub step_uses : Unit → Uses
 step_uses unit = record {
   names = map (λ local. local.name) unit.locals ++ shared_names unit;
@@ -162,12 +162,12 @@ step_uses unit = record {
 abbrev pub are_allowed : Clocks → Clocks → Bool
 are_allowed allowed used = (allowed.time || not used.time) && (allowed.step || not used.step)
 
--- The expression uses nothing else.
+-- The expression uses nothing but these.
 abbrev pub keeps_to : Uses → Expr → Bool
 keeps_to uses value =
     are_among uses.names (names_in value) && (are_among uses.events (events_asked_in value) && are_allowed uses.clocks (clocks_in value))
 
--- All that is declared in a unit, with its type.
+-- Everything that is declared in a unit, with its type.
 abbrev pub declared_in : Unit → List Variable
 declared_in unit =
     variables_of unit

@@ -1,5 +1,5 @@
--- Orders of outputs: a system whose port graph has no cycle has one in which each output comes after all that
--- it needs. This is rule 15, which is judged last.
+-- Orders of outputs: if the port graph of a system has no cycle, there is an order in which each output comes
+-- after all that it depends on. This is rule 15, which is judged last.
 use Rattle.std.specs.Prelude.{◌≡◌, ℕ, Bool, false, ◌&&◌, List, [], ◌∷◌, ◌++◌, map, Option, Some, None, ◌⊎◌, ⊤, if◌then◌else◌}
 use Rattle.std.specs.List.{AllByRecursion, flat_map, filter_map, find, enumerate_from}
 use Rattle.std.specs.Option.{option_map}
@@ -21,7 +21,7 @@ abbrev pub outputs_in : Option Unit → List Port
 outputs_in None = []
 outputs_in (Some unit) = output_ports unit
 
--- All outputs of a system, by instance and then by declaration, where event outputs come after the plain ones.
+-- All outputs of a system, by instance and then by declaration, with event outputs after the plain ones.
 abbrev pub outputs_of : System → List PortName
 outputs_of system =
     flat_map (λ instance. map (λ output. port_of instance output.name) (outputs_in (unit_of_instance system instance))) system.instances
@@ -33,28 +33,28 @@ source_if port wire = if same_port wire.to port then Some wire.from else None
 abbrev pub sources_of : System → PortName → List PortName
 sources_of system port = filter_map (source_if port) system.wires
 
--- The inputs that an output names in its needs.
+-- The inputs in the needs of an output.
 abbrev pub needs_of : Option Port → List (List ℕ)
 needs_of None = []
 needs_of (Some output) = output.needs
 
--- The outputs that an output needs: those that are connected to the inputs in its needs.
+-- The outputs that an output depends on directly: those that are connected to the inputs in its needs.
 abbrev pub needed_by : System → PortName → List PortName
 needed_by system port =
     flat_map (λ input. sources_of system (record { instance = port.instance; port = input })) (needs_of (output_at system port))
 
--- A port stands in a list.
+-- A port is in a list.
 abbrev pub IsIn : List PortName → PortName → Type 0
 IsIn [] port = ⊥
 IsIn (first ∷ others) port = (first ≡ port) ⊎ IsIn others port
 
--- An output depends on another one where it needs it, or needs one that depends on it.
+-- An output depends on another where it does so directly, or through an output in between.
 pub data DependsOn (system : System) : PortName → PortName → Type 0 where
   needs : (port other : PortName) → IsIn (needed_by system port) other → DependsOn system port other
   through : (port between other : PortName) → IsIn (needed_by system port) between → DependsOn system between other → DependsOn system port other
 
--- An orderly list behind outputs that came before: it holds outputs of the system, each once and after all that
--- it needs.
+-- A list is orderly after outputs that came before: its elements are outputs of the system, each once and after
+-- all that it depends on directly.
 abbrev pub IsOrderlyAfter : System → List PortName → List PortName → Type 0
 IsOrderlyAfter system before [] = ⊤
 IsOrderlyAfter system before (port ∷ later) =
@@ -66,15 +66,15 @@ IsOrderlyAfter system before (port ∷ later) =
 abbrev pub IsOrderly : System → List PortName → Type 0
 IsOrderly system order = IsOrderlyAfter system [] order
 
--- The system has no cycle: one orderly list has all its outputs.
+-- The system has no cycle: there is an orderly list of all its outputs.
 abbrev pub HasNoCycle : System → Type 0
 HasNoCycle system = (order : List PortName) × IsOrderly system order × AllByRecursion (IsIn order) (outputs_of system)
 
--- An output has no order where it stands in no orderly list: it lies on a cycle, or depends on one that does.
+-- An output has no order where it is in no orderly list: it is on a cycle, or depends on an output on a cycle.
 abbrev pub HasNoOrder : System → PortName → Type 0
 HasNoOrder system port = (order : List PortName) → IsOrderly system order → IsIn order port → ⊥
 
--- The output that rule 15 names: the first that stands in no orderly list.
+-- The output that rule 15 names: the first that is in no orderly list.
 pub record IsFirstWithoutOrder (system : System) (port : PortName) : Type 0 where
   pub before : List PortName
   pub later : List PortName
@@ -82,7 +82,7 @@ pub record IsFirstWithoutOrder (system : System) (port : PortName) : Type 0 wher
   pub has_no_order : HasNoOrder system port
   pub is_first : AllByRecursion (λ other. HasNoOrder system other → ⊥) before
 
--- Whether a site is that of the output which a port names: the line of its unit that declares it.
+-- Whether a line is the one that declares the output which a port names, in its unit.
 abbrev pub declares_output : List ℕ → Option Unit → Scope → LineForm → Bool
 declares_output name (Some unit) (UnitScope other) (form.Output output) = bytes_eq other.name unit.name && bytes_eq output.name name
 declares_output name (Some unit) (UnitScope other) (form.EventOutput event) = bytes_eq other.name unit.name && bytes_eq event.name name

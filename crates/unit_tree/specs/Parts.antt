@@ -1,5 +1,5 @@
--- Nesting: the parts of a text, the lines of each, and the system that they say. A system forgets in which
--- order parts of different kinds stand; each of its lists keeps its own order.
+-- Nesting: the parts of a text, the lines of each part, and the system of the parts. A system doesn't keep
+-- the order of parts of different kinds; each of its lists keeps the order of its elements.
 use Rattle.std.specs.Prelude.{ℕ, List, [], ◌∷◌, ◌++◌, map, Option, Some, None}
 use Rattle.std.specs.List.{flat_map}
 use Rattle.fixed_words.specs.declared.types.Literal.{Literal}
@@ -31,7 +31,7 @@ abbrev pub else_forms : Option (List (List LineForm)) → List LineForm
 else_forms None = []
 else_forms (Some lines) = form.Else ∷ joined lines
 
--- One line with the lines of its block, where those of each line in the block stand in its place.
+-- One line with the lines of its block, where each line in the block is given as all of its lines.
 abbrev pub block_forms : Line-F (List LineForm) → List LineForm
 block_forms (Line-F.Assign target value) = form.Assign target value ∷ []
 block_forms (Line-F.If cond then_lines else_lines) = form.If cond ∷ joined then_lines ++ else_forms else_lines ++ (form.End ∷ [])
@@ -68,7 +68,7 @@ unit_part_forms (HasEventOut event) = form.EventOutput event ∷ []
 unit_part_forms (Max value) = form.Max value ∷ []
 unit_part_forms (Step lines) = form.Step ∷ flat_map line_forms lines ++ (form.End ∷ [])
 
--- A unit of which nothing is said but its name.
+-- A unit that has nothing but its name.
 abbrev pub bare_unit : List ℕ → Unit
 bare_unit name = record {
   name = name;
@@ -84,7 +84,7 @@ bare_unit name = record {
   step = None;
 }
 
--- What a part says, in front of what the later ones say.
+-- A unit with one more part, which comes before those that it has.
 abbrev pub with_unit_part : UnitPart → Unit → Unit
 with_unit_part (Resolution decimals) unit = record unit { resolution = Some decimals }
 with_unit_part (HasParam param) unit = record unit { params = param ∷ unit.params }
@@ -97,7 +97,7 @@ with_unit_part (HasEventOut event) unit = record unit { events_out = event ∷ u
 with_unit_part (Max value) unit = record unit { max = Some value }
 with_unit_part (Step lines) unit = record unit { step = Some lines }
 
--- The unit that its parts say.
+-- The unit with these parts.
 abbrev pub unit_of : List ℕ → List UnitPart → Unit
 unit_of name [] = bare_unit name
 unit_of name (part ∷ parts) = with_unit_part part (unit_of name parts)
@@ -126,7 +126,7 @@ part_forms (Zero count) = form.Zero count ∷ []
 part_forms (Rows count) = form.Rows count ∷ []
 part_forms (Samples port) = form.Sample port ∷ []
 
--- A system of which nothing is said but its version.
+-- A system that has nothing but its version.
 abbrev pub bare_system : ℕ → System
 bare_system version = record {
   version = version;
@@ -140,7 +140,7 @@ bare_system version = record {
   samples = [];
 }
 
--- What a part says, in front of what the later ones say.
+-- A system with one more part, which comes before those that it has.
 abbrev pub with_part : Part → System → System
 with_part (HasUnit name parts) system = record system { units = unit_of name parts ∷ system.units }
 with_part (HasInstance instance) system = record system { instances = instance ∷ system.instances }
@@ -151,11 +151,11 @@ with_part (Zero count) system = record system { zero = Some count }
 with_part (Rows count) system = record system { rows = Some count }
 with_part (Samples port) system = record system { samples = port ∷ system.samples }
 
--- The system of a version that its parts say.
+-- The system of a version with these parts.
 abbrev pub system_of : ℕ → List Part → System
 system_of version [] = bare_system version
 system_of version (part ∷ parts) = with_part part (system_of version parts)
 
--- The lines of a text: the header with the version, and those of its parts.
+-- The lines of a text: the header with the version, and the lines of its parts.
 abbrev pub text_forms : ℕ → List Part → List LineForm
 text_forms version parts = form.Header version ∷ flat_map part_forms parts

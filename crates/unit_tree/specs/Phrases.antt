@@ -1,5 +1,5 @@
--- Expressions as they are written: the tree with its parentheses, the tokens that it is written with, and
--- which of them the grammar allows.
+-- Expressions as they are written: the tree with its parentheses, its tokens, and which of these trees the grammar
+-- has.
 --
 -- The grammar, from the weakest level to the strongest:
 --
@@ -31,8 +31,8 @@ use Rattle.unit_tree.specs.declared.token.Symbol.TheVariants as sign
 use Rattle.unit_tree.specs.declared.token.Token.{Token}
 use Rattle.unit_tree.specs.declared.token.Token.TheVariants as token
 
--- An expression as it is written. A number stands by its digits without the point, and how many of them are
--- behind it.
+-- An expression as it is written. A number is given by its digits without the point, and how many of them follow the
+-- point.
 pub data Phrase : Type 0 where
   Number : ℕ → ℕ → Phrase
   Truth : Bool → Phrase
@@ -81,7 +81,7 @@ truth_word false = word.False
 abbrev pub in_parens : List Token → List Token
 in_parens tokens = symbol sign.Open ∷ tokens ++ (symbol sign.Close ∷ [])
 
--- An operation on one operand, whose tokens are given.
+-- An operation on one operand, which is given by its tokens.
 abbrev pub unary_tokens : UnOp → List Token → List Token
 unary_tokens of.Neg arg = symbol sign.Minus ∷ arg
 unary_tokens of.Not arg = keyword word.Not ∷ arg
@@ -89,7 +89,7 @@ unary_tokens of.Abs arg = keyword word.Abs ∷ in_parens arg
 unary_tokens of.ToInt arg = keyword word.Int ∷ in_parens arg
 unary_tokens (of.ToFix decimals) arg = keyword word.Fix ∷ whole decimals ∷ in_parens arg
 
--- The token of an operation on two operands: of a call it comes first, and else between them.
+-- The token of an operation on two operands. In a call it comes first, and else between the operands.
 abbrev pub operation : BinOp → Token
 operation by.Add = symbol sign.Plus
 operation by.Sub = symbol sign.Minus
@@ -184,8 +184,8 @@ level_of (Binary op left right) = binary_level op
 level_of (Choose cond then_part else_part) = Whole
 level_of _ = Primary
 
--- The level that a production asks of its operands: a prefix operation of its own level again, a call of a
--- whole expression.
+-- The level that a production requires of its operand: a prefix operation requires its own level, and a call a whole
+-- expression.
 abbrev pub operand_level : Level → Level
 operand_level Not = Not
 operand_level Negation = Negation
@@ -207,11 +207,11 @@ right_level Sum = Product
 right_level Product = Negation
 right_level _ = Whole
 
--- An expression of the level may stand where the grammar asks for another that is not stronger.
+-- An expression of a level is allowed where the grammar requires a level that is not stronger.
 abbrev pub allows : Level → Level → Bool
 allows asked level = nat_le (strength asked) (strength level)
 
--- The expression and each of its parts stand where the grammar asks for no stronger level.
+-- The expression is allowed where the grammar requires this level, and each of its parts is allowed at its own place.
 abbrev pub stands : Level → Phrase → Bool
 stands asked (Parens inner) = stands Whole inner
 stands asked (Unary op arg) = allows asked (unary_level op) && stands (operand_level (unary_level op)) arg
@@ -224,15 +224,15 @@ stands asked _ = true
 
 -- ---- Nesting and numbers
 
--- The operands of an operation are one level of nesting deeper, but for those of an infix one.
+-- How much deeper the operands of an operation are nested: one level, but not those of an infix operation.
 abbrev pub binary_nesting : BinOp → ℕ → ℕ
 binary_nesting by.Min deepest = suc deepest
 binary_nesting by.Max deepest = suc deepest
 binary_nesting _ deepest = deepest
 
--- How many levels deep the parts of an expression are nested: each part inside parentheses or a call, each
--- part of an `if`, and each operand of `not` and of the prefix `-` is one level deeper than what is around it. The
--- name in `present(u)` is no part.
+-- How many levels deep the parts of an expression are nested. Each part inside parentheses or a call, each part of an
+-- `if`, and each operand of `not` and of the prefix `-` is one level deeper than what is around it. The name in
+-- `present(u)` is not a part.
 abbrev pub nesting : Phrase → ℕ
 nesting (Parens inner) = suc (nesting inner)
 nesting (Unary op arg) = suc (nesting arg)
@@ -251,8 +251,8 @@ numbers_fit (Clamp value low high) = numbers_fit value && (numbers_fit low && nu
 numbers_fit (Choose cond then_part else_part) = numbers_fit cond && (numbers_fit then_part && numbers_fit else_part)
 numbers_fit _ = true
 
--- The grammar has the expression: each part stands on its level, the parts are nested at most 64 levels deep, and the
--- numbers, that of each `fix N` too, are in range.
+-- The grammar has the expression: each part has an allowed level, the parts are nested at most 64 levels deep, and all
+-- numbers are in range, also the N of each `fix N`.
 abbrev pub is_expression : Phrase → Bool
 is_expression phrase = stands Whole phrase && (nat_le (nesting phrase) writing_limit && numbers_fit phrase)
 

@@ -1,5 +1,6 @@
--- The plain form of a system: a system of version 2 without event ports, which is what is run. Each event port `p` is two
--- plain ports there: `p?`, which tells whether an event occurs, and then `p`, which has the event's word or 0.
+-- The plain form of a system: a system of version 2 without event ports, which is what is run. Each event port `p` is
+-- two plain ports there: `p?`, a truth value that is true where an event occurs, and then `p`, the event's word, or 0
+-- without an event.
 use Rattle.std.specs.Prelude.{ℕ, zero, suc, ◌==◌, Bool, true, false, pos, List, [], ◌∷◌, ◌++◌, map, if◌then◌else◌}
 use Rattle.std.specs.List.{flat_map}
 use Rattle.std.specs.Option.{option_map, unwrap_or}
@@ -30,11 +31,11 @@ use Rattle.unit_tree.specs.declared.unit.Unit.{Unit}
 
 -- ---- Expressions
 
--- The name of the port that tells whether an event occurs: `p?`, which no text can spell.
+-- The name of the port that is true where an event occurs: `p?`, which no text can spell.
 abbrev pub presence_name : List ℕ → List ℕ
 presence_name name = name ++ (63 ∷ [])
 
--- One node of its parts.
+-- The expression of one node and its parts.
 abbrev pub rebuilt : Expr-F Expr → Expr
 rebuilt (Expr-F.Number word decimals) = expr.Number word decimals
 rebuilt (Expr-F.Truth told) = expr.Truth told
@@ -56,8 +57,8 @@ node_plain node = rebuilt node
 abbrev pub plain_expression : Expr → Expr
 plain_expression = fold-Expr Expr node_plain
 
--- An event output's expression with what each of its choices becomes. A choice is the whole expression; but an `if` is its
--- condition with the choices of both its branches.
+-- An event output's expression, and the same expression with each of its choices changed. The one choice of an
+-- expression is the expression itself; but an `if` has the choices of both its branches.
 pub record Choices : Type 0 where
   pub whole : Expr
   pub changed : Expr
@@ -65,7 +66,7 @@ pub record Choices : Type 0 where
 abbrev pub chosen : (Expr → Expr) → Expr → Choices
 chosen change whole = record { whole = whole; changed = change whole }
 
--- Of one node, where `absent` becomes one expression, and any other choice what it is changed to.
+-- One node: `absent` becomes `gap`, and any other choice is changed by `change`.
 abbrev pub node_choices : Expr → (Expr → Expr) → Expr-F Choices → Choices
 node_choices gap change (Expr-F.Number word decimals) = chosen change (expr.Number word decimals)
 node_choices gap change (Expr-F.Truth told) = chosen change (expr.Truth told)
@@ -113,7 +114,7 @@ plain_line = fold-Line Line node_plain_line
 
 -- ---- Units
 
--- What an input starts with where no event occurs.
+-- The start literal of the plain input, which it has where no event occurs.
 abbrev pub no_event : Ty → Literal
 no_event types.Bool = literal.Truth false
 no_event _ = literal.Number (pos 0) 0
@@ -124,7 +125,7 @@ plain_inputs event =
     ∷ record { name = event.name; ty = event.ty; start = no_event event.ty }
     ∷ []
 
--- A need of an event input `u` becomes the needs `u?` and `u`.
+-- An event input `u` in the needs becomes the two inputs `u?` and `u`.
 abbrev pub plain_need : Unit → List ℕ → List (List ℕ)
 plain_need unit name = if is_among (event_input_names unit) name then presence_name name ∷ name ∷ [] else name ∷ []
 
@@ -140,7 +141,7 @@ plain_outputs unit event =
     ∷ record { name = event.name; ty = event.ty; needs = plain_needs unit event.needs; value = plain_expression (word_expression_of event.ty event.value) }
     ∷ []
 
--- The ports of events stand after all plain ones.
+-- The plain form of a unit, in which the ports of events come after all plain ones.
 abbrev pub plain_unit : Unit → Unit
 plain_unit unit = record unit {
   inputs = unit.inputs ++ flat_map plain_inputs unit.events_in;
@@ -159,18 +160,18 @@ presence_port port = record { instance = port.instance; port = presence_name por
 abbrev pub is_event_output : System → PortName → Bool
 is_event_output system port = unwrap_or (option_map (λ output. output.is_event) (output_at system port)) false
 
--- A connection of event ports becomes two, that of the `?` ports first.
+-- A connection of event ports becomes two connections, first that of the `?` ports.
 abbrev pub plain_wires : System → Wire → List Wire
 plain_wires system wire =
     if is_event_output system wire.from
     then record { from = presence_port wire.from; to = presence_port wire.to } ∷ wire ∷ []
     else wire ∷ []
 
--- What is sampled, or all outputs where nothing is.
+-- The sampled outputs, or all outputs where none is sampled.
 abbrev pub samples_or_all : System → List PortName
 samples_or_all system = if is_empty system.samples then outputs_of system else system.samples
 
--- The plain form. A system of version 1 is its own.
+-- The plain form. A system of version 1 is its own plain form.
 abbrev pub plain_form : System → System
 plain_form system = if system.version == 2 then record system {
   units = map plain_unit system.units;
@@ -180,8 +181,8 @@ plain_form system = if system.version == 2 then record system {
 
 -- ---- Lines
 
--- The lines of the plain form that a line of a system of version 2 becomes, in a unit where it stands in one. In version 1
--- the plain form is the system itself, with its own lines.
+-- The lines of the plain form that a line of a system of version 2 becomes, where the scope states the unit that the
+-- line is in. In version 1 the plain form is the system itself, with its own lines.
 abbrev pub plain_forms : System → Scope → LineForm → List LineForm
 plain_forms system (UnitScope unit) (form.Output output) = form.Output (plain_output unit output) ∷ []
 plain_forms system (UnitScope unit) (form.EventOutput event) = map form.Output (plain_outputs unit event)

@@ -1,5 +1,5 @@
--- Port assignment: which word each output has for given states, and which outputs have none. It is a set of
--- equations, one for each output, and says nothing of the order in which they are solved.
+-- Port assignment: the word of each output for given states, or that it has none. It is a set of equations, one for
+-- each output, and doesn't state the order in which they are solved.
 use Rattle.std.specs.Prelude.{◌≡◌, ℕ, ◌<◌, ℤ, List, [], ◌∷◌, ◌++◌, map, length, zip, if◌then◌else◌, slice_get, Option, Some, None, ⊤, ◌⊎◌, unwrap_or}
 use Rattle.std.specs.List.{AllByRecursion, enumerate_from, flat_map, filter_map}
 use Rattle.std.specs.Option.{option_map, option_and_then}
@@ -27,7 +27,8 @@ input_word ports (AtPlace place) = option_and_then (λ word. word) (slice_get po
 abbrev pub Standing : Type 0
 Standing = Member × List ℤ
 
--- An output of a composition: its member with its state, the number of its instance, and its own there.
+-- An output of a composition: its member with the member's state, the number of its instance, and its own number
+-- there.
 pub record Outlet : Type 0 where
   pub standing : Standing
   pub instance : ℕ
@@ -45,13 +46,13 @@ outlets run states = flat_map outlets_of (enumerate_from 0 (zip run.members stat
 
 -- ---- The equation of an output
 
--- What an output sees of an input: its word where it needs it. An input that it does not need shows its start word,
--- whatever its word is; the rules on needs keep such an input out of the output's value.
+-- What an output reads of an input: its word where the input is in its needs. Any other input has its start word
+-- here, whatever its word is; the rules on needs ensure that the output doesn't use it.
 abbrev pub seen_by : Ports → Output → Input × InputSource → Option ℤ
 seen_by ports output (input, source) =
     if is_among output.needs input.name then input_word ports source else Some (start_word input.ty input.start)
 
--- All of some, where none is missing.
+-- A list with one more element before it, where the list is there.
 abbrev pub in_front : {A : Type 0} → A → Option (List A) → Option (List A)
 in_front first None = None
 in_front first (Some others) = Some (first ∷ others)
@@ -66,12 +67,12 @@ abbrev pub inputs_for : Ports → Outlet → Option (List ℤ)
 inputs_for ports outlet =
     all_there (map (seen_by ports outlet.output) (zip outlet.standing.0.component.unit.inputs outlet.standing.0.sources))
 
--- What get gives of an output, where each input in its needs has a word.
+-- The result of get for an output, where each input in its needs has a word.
 abbrev pub given_at : Ports → Outlet → Option Outcome
 given_at ports outlet =
     option_map (λ inputs. get_of outlet.standing.0.component outlet.standing.1 inputs outlet.output) (inputs_for ports outlet)
 
--- The word of an output: it is undefined where an input in its needs is, and where get faults.
+-- The word of an output. It is undefined where an input in its needs is, and where get gives a fault.
 abbrev pub word_at : Ports → Outlet → Option ℤ
 word_at ports outlet = option_and_then result_ok (given_at ports outlet)
 
@@ -79,13 +80,13 @@ word_at ports outlet = option_and_then result_ok (given_at ports outlet)
 abbrev pub right_sides : Composition → List (List ℤ) → Ports → Ports
 right_sides run states ports = map (word_at ports) (outlets run states)
 
--- The port assignment for the states: each output has what its equation says.
+-- The port assignment for the states: each output has the word that its equation gives.
 abbrev pub IsAssignment : Composition → List (List ℤ) → Ports → Type 0
 IsAssignment run states ports = ports ≡ right_sides run states ports
 
 -- ---- Port faults
 
--- The first that is there.
+-- The first element that is there.
 abbrev pub first_some : {A : Type 0} → List (Option A) → Option A
 first_some [] = None
 first_some (None ∷ others) = first_some others
@@ -102,7 +103,7 @@ port_fault run states ports = first_some (map (fault_at ports) (outlets run stat
 
 -- ---- Orders of places
 
--- The place that an input in the needs of an output takes its word from, where it is connected.
+-- The place of the output that is connected to an input, where there is one.
 abbrev pub place_in : InputSource → Option ℕ
 place_in (Start word) = None
 place_in (AtPlace place) = Some place
@@ -110,11 +111,11 @@ place_in (AtPlace place) = Some place
 abbrev pub place_needed : Output → Input × InputSource → Option ℕ
 place_needed output (input, source) = if is_among output.needs input.name then place_in source else None
 
--- The places that a member's output needs.
+-- The places of the outputs that a member's output depends on directly.
 abbrev pub places_needed : Member → Output → List ℕ
 places_needed member output = filter_map (place_needed output) (zip member.component.unit.inputs member.sources)
 
--- The places that each output of a composition needs, by its place.
+-- For each output of a composition, by its place, the places that it depends on directly.
 abbrev pub needs_of_places : Composition → List (List ℕ)
 needs_of_places run = flat_map (λ member. map (places_needed member) member.component.unit.outputs) run.members
 
@@ -125,8 +126,8 @@ IsAmong (first ∷ others) place = (first ≡ place) ⊎ IsAmong others place
 abbrev pub needs_at : Composition → ℕ → List ℕ
 needs_at run place = unwrap_or (slice_get (needs_of_places run) place) []
 
--- A list of places behind some that came before: each is the place of an output, stands once, and behind all that
--- its output needs.
+-- A list of places is ordered after some that came before: each is the place of an output, occurs once, and comes
+-- after all places that its output depends on.
 abbrev pub IsOrderedAfter : Composition → List ℕ → List ℕ → Type 0
 IsOrderedAfter run before [] = ⊤
 IsOrderedAfter run before (place ∷ later) =
@@ -135,7 +136,7 @@ IsOrderedAfter run before (place ∷ later) =
     × AllByRecursion (IsAmong before) (needs_at run place)
     × IsOrderedAfter run (before ++ (place ∷ [])) later
 
--- An order of a composition: a list of all places, each behind those that it needs.
+-- An order of a composition: a list of all places, each after those that it depends on.
 pub record IsPlaceOrder (run : Composition) (order : List ℕ) : Type 0 where
   pub ordered : IsOrderedAfter run [] order
   pub all : (place : ℕ) → place < length (needs_of_places run) → IsAmong order place

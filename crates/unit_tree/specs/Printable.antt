@@ -28,7 +28,7 @@ abbrev pub names_on_expression : Option Expr → List (List ℕ)
 names_on_expression None = []
 names_on_expression (Some value) = names_in value
 
--- The names that stand on a line in front of its expression.
+-- The names on a line before its expression.
 abbrev pub names_said : LineForm → List (List ℕ)
 names_said (form.Unit name) = name ∷ []
 names_said (form.Param param) = param.name ∷ []
@@ -54,15 +54,15 @@ abbrev pub IsLiteralInRange : Literal → Type 0
 IsLiteralInRange (literal.Truth told) = ⊤
 IsLiteralInRange (literal.Number number decimals) = decimals ≤ decimals_limit
 
--- A literal, a number of seconds, and the numbers of an expression have at most nine decimals; so has what each `fix N` in
--- it gives.
+-- A literal, a number of seconds, and the numbers of an expression have at most nine decimals; so has each `fix N` in
+-- the expression.
 abbrev pub IsTailInRange : Tail → Type 0
 IsTailInRange Nothing = ⊤
 IsTailInRange (OfLiteral value) = IsLiteralInRange value
 IsTailInRange (OfSeconds seconds) = IsLiteralInRange seconds
 IsTailInRange (OfExpression value) = IsTrue (is_ranged value)
 
--- The counts and the numbers of decimals on a line are those that the language allows.
+-- The counts and the numbers of decimals on a line are in the ranges of the language.
 abbrev pub IsInRange : LineForm → Type 0
 IsInRange line = AreCountsInRange line × IsTailInRange (tail_of line)
 
@@ -72,8 +72,8 @@ is_event_port (form.EventInput event) = true
 is_event_port (form.EventOutput event) = true
 is_event_port _ = false
 
--- The system is in range: its version is 1 or 2, and has no event ports where it is 1; its names are words; and the
--- numbers on its lines are in range.
+-- The system is in range: its version is 1 or 2, and it has no event ports if the version is 1; its names are words;
+-- and the numbers on its lines are in range.
 pub record IsRanged (system : System) : Type 0 where
   pub version : (1 ≤ system.version) × (system.version ≤ 2)
   pub events : system.version ≡ 1 → IsFalse (list_any is_event_port (canonical_forms system))
@@ -82,7 +82,7 @@ pub record IsRanged (system : System) : Type 0 where
 
 -- ---- Printable
 
--- One node, with whether the numbers of each part are words from 0 up in its place.
+-- One node, where for each part it is given whether all its numbers are words from 0 up.
 abbrev pub node_is_unsigned : Expr-F Bool → Bool
 node_is_unsigned (Expr-F.Number number decimals) = not (is_negative number) && is_word_of Int64 number
 node_is_unsigned (Expr-F.Unary op arg) = arg
@@ -105,16 +105,16 @@ abbrev pub is_seconds : Literal → Bool
 is_seconds (literal.Truth told) = false
 is_seconds (literal.Number number decimals) = not (is_negative number) && is_word_of Int64 number
 
--- A literal's number is a word; the numbers of seconds are words from 0 up; those of an expression too, and its
--- canonical text is nested at most 64 levels deep.
+-- A literal's number is a word, and a number of seconds is a word from 0 up. The numbers of an expression are words
+-- from 0 up, and its canonical text is nested at most 64 levels deep.
 abbrev pub is_writable : Tail → Bool
 is_writable Nothing = true
 is_writable (OfLiteral value) = is_word_literal value
 is_writable (OfSeconds seconds) = is_seconds seconds
 is_writable (OfExpression value) = is_unsigned value && nat_le (nesting (canonical_phrase value)) writing_limit
 
--- How deep blocks of `if` and `repeat` stand in each other: of lines that are so deep, and of one line with the
--- depth of each line of its block in its place.
+-- How deep blocks of `if` and `repeat` are nested: the greatest of the depths of lines, and the depth of one line,
+-- where the lines of its blocks are given as their depths.
 abbrev pub deepest : List ℕ → ℕ
 deepest depths = fold max 0 depths
 
@@ -134,9 +134,9 @@ abbrev pub step_depth : Option (List Line) → ℕ
 step_depth None = 0
 step_depth (Some lines) = deepest (map line_depth lines)
 
--- The system has a canonical text: it is in range, and of version 2 where a line is of that version; its names are not
--- reserved, its numbers are words with the signs that the language allows, and its nesting, its blocks, its lines and
--- its text keep their limits.
+-- The system has a canonical text. It is in range, and of version 2 where a line is of that version. Its names are not
+-- reserved, and its numbers are words with the signs that the language allows. Its nesting, its blocks, its lines and
+-- its text are within their limits.
 pub record IsPrintable (system : System) : Type 0 where
   pub ranged : IsRanged system
   pub of_version : system.version ≡ 1 → IsFalse (list_any is_of_version_2 (canonical_forms system))

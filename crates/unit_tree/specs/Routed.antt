@@ -1,4 +1,4 @@
--- What an order keeps.
+-- What is known of an order.
 use Rattle.unit_tree.specs.Routes.{Ordered, IsOrdered}
 use Rattle.unit_tree.specs.declared.order.Order.TheInside.{Inside}
 

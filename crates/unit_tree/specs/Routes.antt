@@ -1,4 +1,4 @@
--- Routes: the ports of a composition by numbers, so that no one who goes along an order looks a name up.
+-- Routes: the ports of a composition by numbers, so that code which goes along an order looks up no name.
 use Rattle.std.specs.Prelude.{◌≡◌, ℕ, ◌<◌, ◌==◌, List, [], ◌∷◌, ◌++◌, map, length, if◌then◌else◌, slice_get, Option, Some, None, ⊤}
 use Rattle.std.specs.List.{AllByRecursion, enumerate_from, flat_map, filter_map}
 use Rattle.std.specs.Option.{option_map, unwrap_or}
@@ -31,7 +31,7 @@ abbrev pub starts_at : InputAt × InputSource → Option StartWord
 starts_at (at, Start word) = Some (record { at = at; word = word })
 starts_at (at, AtPlace place) = None
 
--- Each output of a composition: its instance, its number there, and the places that it needs.
+-- Each output of a composition: its instance, its number there, and the places that it depends on directly.
 pub record Numbered : Type 0 where
   pub instance : ℕ
   pub output : ℕ
@@ -61,7 +61,8 @@ pub record Ordered : Type 0 where
 abbrev pub needs_on : Routes → ℕ → List ℕ
 needs_on routes place = unwrap_or (option_map (λ route. route.needs) (slice_get routes.outputs place)) []
 
--- Places behind some that came before: each is that of a route, stands once, and behind all that its output needs.
+-- A list of places is ordered after some that came before: each is the place of a route, occurs once, and comes
+-- after all places that its output depends on.
 abbrev pub IsRoutedAfter : Routes → List ℕ → List ℕ → Type 0
 IsRoutedAfter routes before [] = ⊤
 IsRoutedAfter routes before (place ∷ later) =
@@ -70,12 +71,12 @@ IsRoutedAfter routes before (place ∷ later) =
     × AllByRecursion (IsAmong before) (needs_on routes place)
     × IsRoutedAfter routes (before ++ (place ∷ [])) later
 
--- The places are those of all routes, each once, and behind all that its output needs.
+-- The places are those of all routes, each once and after all places that its output depends on.
 pub record IsOrdered (order : Ordered) : Type 0 where
   pub routed : IsRoutedAfter order.routes [] order.places
   pub all : (place : ℕ) → place < length order.routes.outputs → IsAmong order.places place
 
--- The order is one of a composition's places, and the routes are its own.
+-- The places are an order of the composition, and the routes are those of the composition.
 pub record IsOrderOf (run : Composition) (order : Ordered) : Type 0 where
   pub places : IsPlaceOrder run order.places
   pub routes : order.routes ≡ routes_of run

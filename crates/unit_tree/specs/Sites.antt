@@ -1,5 +1,5 @@
--- The canonical lines of a system, each with the block that it stands in and the lines before it there. The
--- rules of a system speak of them.
+-- The canonical lines of a system, each with the block that it is in and the lines before it there. The rules of a
+-- system are stated with them.
 use Rattle.std.specs.Prelude.{◌≡◌, ◌⊎◌, ⊤, Bool, true, false, not, List, [], ◌∷◌, ◌++◌, map, length, Some, IsTrue}
 use Rattle.std.specs.List.{AllByRecursion, slice_get, flat_map, filter}
 use Rattle.unit_tree.specs.Blocks.{Block, InUnit, InStep, InIf, InElse, InRepeat, InInstance}
@@ -11,8 +11,7 @@ use Rattle.unit_tree.specs.declared.system.Instance.{Instance}
 use Rattle.unit_tree.specs.declared.system.System.{System}
 use Rattle.unit_tree.specs.declared.unit.Unit.{Unit}
 
--- What a line stands in: in no block, in a unit, between the `step` of a unit and its own `end`, or in an
--- instance.
+-- The scope of a line: no block, a unit, a unit's step (between `step` and its own `end`), or an instance.
 pub data Scope : Type 0 where
   TopScope : Scope
   UnitScope : Unit → Scope
@@ -33,19 +32,19 @@ pub record Headed : Type 0 where
 abbrev pub alone : LineForm → Headed
 alone line = record { head = line; block = [] }
 
--- The sites of lines in a scope, behind some that came before.
+-- The sites of lines in a scope, after earlier lines there.
 abbrev pub sites : Scope → List LineForm → List Headed → List Site
 sites scope earlier [] = []
 sites scope earlier (headed ∷ others) =
     record { scope = scope; earlier = earlier; line = headed.head } ∷ headed.block ++ sites scope (earlier ++ (headed.head ∷ [])) others
 
--- A part of a unit; its `step` has the step lines inside.
+-- The lines of a part of a unit. `step` has the step lines in its block.
 abbrev pub headed_unit_part : Unit → UnitPart → List Headed
 headed_unit_part unit (Step lines) =
     record { head = form.Step; block = sites (StepScope unit) [] (map alone (flat_map line_forms lines)) } ∷ alone form.End ∷ []
 headed_unit_part unit part = map alone (unit_part_forms part)
 
--- A part of a text; a unit and an instance have their lines and their `end` inside.
+-- The lines of a part of a text. A unit and an instance have their lines and their `end` in their block.
 abbrev pub headed_part : Part → List Headed
 headed_part (HasUnit name parts) = record {
   head = form.Unit name;
@@ -61,7 +60,7 @@ headed_part part = map alone (part_forms part)
 abbrev pub sites_of : System → List Site
 sites_of system = sites TopScope [] (alone (form.Header system.version) ∷ flat_map headed_part (canonical_parts system))
 
--- ---- Where a site stands
+-- ---- Where a site is
 
 abbrev pub is_step_line : LineForm → Bool
 is_step_line (form.Assign target value) = true
@@ -76,8 +75,9 @@ abbrev pub is_end : LineForm → Bool
 is_end form.End = true
 is_end _ = false
 
--- A line has the scope where the blocks are open, the innermost first. The `end` of a step stands in the unit, in which its
--- `step` does, and those of `if` and `repeat` in the step; the `end` of a unit and of an instance stands in what it closes.
+-- Whether a line has the scope, where these blocks are open, the innermost first. The `end` of a step is in the unit,
+-- as its `step` is, and those of `if` and `repeat` are in the step. The `end` of a unit or an instance is in the block
+-- that it closes.
 abbrev pub is_scope_in : List Block → Scope → LineForm → Bool
 is_scope_in [] TopScope line = true
 is_scope_in (InUnit ∷ blocks) (UnitScope unit) line = true
@@ -89,7 +89,7 @@ is_scope_in (InRepeat ∷ blocks) (StepScope unit) line = true
 is_scope_in (InInstance ∷ blocks) (InstanceScope instance) line = true
 is_scope_in _ _ _ = false
 
--- A scope holds lines of the form: all but `end` tell by their form in which kind of block they stand.
+-- A scope may have lines of the form. Each form but `end` is allowed in one kind of scope.
 abbrev pub holds : Scope → LineForm → Bool
 holds (UnitScope unit) (form.Resolution decimals) = true
 holds (UnitScope unit) (form.Param param) = true
@@ -124,8 +124,8 @@ abbrev pub is_instance_line : LineForm → Bool
 is_instance_line (form.Instance name unit) = true
 is_instance_line _ = false
 
--- The site opens the block of the scope: the unit, or the instance, of the system that has its number among such lines, or
--- the step of a unit.
+-- The site opens the block of the scope: it is the `step` of a unit, or the line of a unit or an instance that has,
+-- among such lines, the number of the scope's unit or instance in the system.
 abbrev pub IsOpenedBy : System → Scope → Site → Type 0
 IsOpenedBy system TopScope head = ⊥
 IsOpenedBy system (UnitScope unit) head =
@@ -140,14 +140,14 @@ abbrev pub Opens : System → Scope → List Site → Type 0
 Opens system TopScope outside = outside ≡ []
 Opens system scope outside = (front : List Site) × (head : Site) × (outside ≡ front ++ (head ∷ [])) × IsOpenedBy system scope head
 
--- A scope is that block, or a block inside it.
+-- The second scope is the first one, or a block inside it.
 abbrev pub IsWithin : Scope → Scope → Type 0
 IsWithin TopScope scope = ⊤
 IsWithin (UnitScope unit) scope = (scope ≡ UnitScope unit) ⊎ (scope ≡ StepScope unit)
 IsWithin (StepScope unit) scope = scope ≡ StepScope unit
 IsWithin (InstanceScope instance) scope = scope ≡ InstanceScope instance
 
--- Two scopes are blocks of one kind.
+-- Two scopes are blocks of the same kind.
 abbrev pub are_level : Scope → Scope → Bool
 are_level TopScope TopScope = true
 are_level (UnitScope unit) (UnitScope other) = true
@@ -155,8 +155,8 @@ are_level (StepScope unit) (StepScope other) = true
 are_level (InstanceScope instance) (InstanceScope other) = true
 are_level _ _ = false
 
--- A site behind others stands in its block: the block was opened before it and goes on until there, and the lines that count
--- as earlier are those of the block itself, in their order.
+-- How a site follows the sites before it. Its block was opened before it and is still open. The lines that count as
+-- earlier are those of the block itself, in their order.
 pub record StandsBehind (system : System) (before : List Site) (site : Site) : Type 0 where
   pub outside : List Site
   pub inside : List Site

@@ -1,5 +1,5 @@
--- Source lines: for each canonical line of what a text says, the line of the text that it came from. The lines of a text
--- stand in the order of its parts; canonical lines stand kind by kind, and each kind keeps its own order.
+-- Source lines: for each canonical line of a text's system, the line of the text that it came from. The lines of a text
+-- are in the order of its parts. Canonical lines are in the order of their kinds, and each kind keeps its own order.
 use Rattle.std.specs.Prelude.{◌≡◌, ℕ, ◌==◌, not, List, [], ◌∷◌, ◌++◌, map, length, take, drop}
 use Rattle.std.specs.List.{filter, flat_map, enumerate_from}
 use Rattle.unit_tree.specs.Lines.{source_lines, is_blank_line}
@@ -32,17 +32,17 @@ part_rank (Zero count) = 5
 part_rank (Rows count) = 6
 part_rank (Samples port) = 7
 
--- Lists with a rank each, one behind the other: those of the first rank, then those of the next, and so on.
+-- Of lists with a rank each, those of one rank, joined in their order.
 abbrev pub of_rank : {A : Type 0} → List (ℕ × List A) → ℕ → List A
 of_rank lists rank = flat_map (λ one. one.1) (filter (λ one. one.0 == rank) lists)
 
 abbrev pub by_rank : {A : Type 0} → List ℕ → List (ℕ × List A) → List A
 by_rank ranks lists = flat_map (of_rank lists) ranks
 
--- ---- Lines that go along
+-- ---- Lists with an element for each line
 
--- A list that goes along with the lines of parts is cut into one piece for each part, as long as the part has lines. Each
--- piece stands there with its part's rank, put into the order that it has inside the part.
+-- A list with an element for each line of the parts is cut into one piece for each part, as long as the part has lines.
+-- Each piece is given with its part's rank, and is sorted into the order inside the part.
 abbrev pub each_ranked : {A P : Type 0} → (P → ℕ) → (P → ℕ) → (P → List A → List A) → List P → List A → List (ℕ × List A)
 each_ranked rank size inside [] lines = []
 each_ranked rank size inside (part ∷ parts) lines =
@@ -53,13 +53,14 @@ unit_lines_in_order parts lines =
     by_rank (0 ∷ 1 ∷ 2 ∷ 3 ∷ 4 ∷ 5 ∷ 6 ∷ 7 ∷ 8 ∷ 9 ∷ [])
     (each_ranked unit_part_rank (λ part. length (unit_part_forms part)) (λ part inside. inside) parts lines)
 
--- Of a unit its own line comes first, then those of its parts in canonical order, then its `end`.
+-- The pieces of a part in canonical order: of a unit its own line comes first, then those of its parts in canonical
+-- order, then its `end`.
 abbrev pub part_lines_in_order : {A : Type 0} → Part → List A → List A
 part_lines_in_order (HasUnit name parts) lines =
     take 1 lines ++ unit_lines_in_order parts (drop 1 lines) ++ drop (length (flat_map unit_part_forms parts)) (drop 1 lines)
 part_lines_in_order part lines = lines
 
--- What goes along with the lines of a text, one for each: that of the header, and those of the parts in canonical order.
+-- A list with an element for each line of a text, in canonical order: that of the header, then those of the parts.
 abbrev pub in_canonical_order : {A : Type 0} → List Part → List A → List A
 in_canonical_order parts lines =
     take 1 lines
@@ -71,7 +72,7 @@ in_canonical_order parts lines =
 abbrev pub numbers_of : List (List ℕ) → List ℕ
 numbers_of lines = map (λ numbered. numbered.0) (filter (λ numbered. not (is_blank_line numbered.1)) (enumerate_from 1 lines))
 
--- The text says the system, and its canonical lines came from the lines of these numbers, one for one.
+-- The text has the system, and its canonical lines came from the lines with these numbers, one for one.
 pub record ReadsFrom (text : List ℕ) (system : System) (lines : List ℕ) : Type 0 where
   pub reads : Reads text system
   pub are_lines : lines ≡ in_canonical_order reads.parts (numbers_of (source_lines text))

@@ -35,64 +35,64 @@ standings run at = zip run.members at.states
 abbrev pub limits : Composition → Position → Ports → List ℕ
 limits run at ports = filter_map (limit_at at.point.t ports) (standings run at)
 
--- The step that is proposed.
+-- The proposed step.
 abbrev pub proposed : Composition → Position → Ports → ℕ
 proposed run at ports = proposal_of run.stop run.longest at.point.t (limits run at ports)
 
--- What the members make of a step of h, from the states of the position.
+-- The results of the members' steps of length h, from the states of the position.
 abbrev pub steps_by : Composition → Position → Ports → ℕ → List (Option (Result Moved Fault))
 steps_by run at ports h = map (step_at at.point.t h ports) (standings run at)
 
--- The trial: what they make of the proposal.
+-- The trial: the results of steps of the proposed length.
 abbrev pub trial : Composition → Position → Ports → List (Option (Result Moved Fault))
 trial run at ports = steps_by run at ports (proposed run at ports)
 
--- The replies to a step of h.
+-- The replies to a step of length h.
 abbrev pub replies_to : Composition → Position → Ports → ℕ → List ℕ
 replies_to run at ports h = map (reply_at at.point.t h) (zip run.members (steps_by run at ports h))
 
--- The step that is agreed on: the least reply to the proposal.
+-- The agreed step: the least reply to the proposed step.
 abbrev pub agreed : Composition → Position → Ports → ℕ
 agreed run at ports = agreed_step (proposed run at ports) (replies_to run at ports (proposed run at ports))
 
--- The step from the position is made anew where the agreed one is shorter than the proposal.
+-- The step from the position is made again where the agreed step is shorter than the proposed one.
 abbrev pub is_redone : Composition → Position → Ports → Bool
 is_redone run at ports = nat_lt (agreed run at ports) (proposed run at ports)
 
--- ---- How a run ends at a position. Each end has its own condition, whether or not that of another holds.
+-- ---- How a run ends at a position. Each ending has its own condition, whether or not that of another holds too.
 
 abbrev pub when : {A : Type 0} → Bool → A → Option A
 when true given = Some given
 when false given = None
 
--- The first end that is told of an item, which are numbered from 0.
+-- The first ending that one of the items gives. Items are numbered from 0.
 abbrev pub first_told : {A : Type 0} → (ℕ × A → Option Ending) → List A → Option Ending
 first_told tell items = first_some (map tell (enumerate_from 0 items))
 
--- At its stop.
+-- The ending at the stop.
 abbrev pub stop_end : Composition → Position → Option Ending
 stop_end run at = when (at.point.t == run.stop) Completed
 
--- With the last row that there may be.
+-- The ending with the last row that there may be.
 abbrev pub row_end : Composition → Position → Option Ending
 row_end run at = when (suc at.number == run.row_budget) RowBudget
 
--- By a fault of a `max`: the first, by instance.
+-- The ending by a fault of a `max`: the first, by instance.
 abbrev pub max_end_of : ℕ × Result (Option ℕ) Fault → Option Ending
 max_end_of (instance, told) = option_map (UnitFault instance place.Max) (result_err told)
 
 abbrev pub max_end : Composition → Position → Ports → Option Ending
 max_end run at ports = first_told max_end_of (map (max_at at.point.t ports) (standings run at))
 
--- By a fault of a step: the first, by instance, in the trial.
+-- The ending by a fault of a step: the first, by instance.
 abbrev pub step_end_of : ℕ × Option (Result Moved Fault) → Option Ending
 step_end_of (instance, step) = option_map (UnitFault instance place.Step) (option_and_then result_err step)
 
 abbrev pub trial_end : Composition → Position → Ports → Option Ending
 trial_end run at ports = first_told step_end_of (trial run at ports)
 
--- In a step of the agreed length that is shorter than the proposal: by the first member, by instance, that faults or
--- accepts less than its local step.
+-- The ending in a redo, a step of the agreed length that is shorter than the proposed one. It is given by the first
+-- member, by instance, with a fault or with an accepted length below its local step.
 abbrev pub redo_end_of : ℕ → ℕ → ℕ × (Member × Option (Result Moved Fault)) → Option Ending
 redo_end_of t h (instance, (member, Some (Ok moved))) =
     when (nat_lt moved.accepted (local_step member.factor t h)) (StepRefused instance (local_step member.factor t h) moved.accepted)
@@ -104,11 +104,11 @@ redo_end_by run at ports h = first_told (redo_end_of at.point.t h) (zip run.memb
 abbrev pub redo_end : Composition → Position → Ports → Option Ending
 redo_end run at ports = if is_redone run at ports then redo_end_by run at ports (agreed run at ports) else None
 
--- Where as many steps of length zero have been made in a row as there may be, and the agreed step is one more.
+-- The ending by the zero budget: it is spent, and the agreed step has length zero.
 abbrev pub zero_end : Composition → Position → Ports → Option Ending
 zero_end run at ports = when ((agreed run at ports == 0) && (at.point.n == run.zero_budget)) ZeroBudget
 
--- The ends in the order in which they are judged.
+-- The endings in the order in which they are judged.
 abbrev pub ends_at : Composition → Position → Ports → List (Option Ending)
 ends_at run at ports =
     port_fault run at.states ports
@@ -143,7 +143,7 @@ abbrev pub ends_or : Option Ending → Position → Next
 ends_or None next = goes next
 ends_or (Some ending) next = ends ending
 
--- The successor of a position for its port assignment: the first end that is there, or else the position after the
--- agreed step.
+-- The successor of a position for its port assignment: the first ending that there is, or else the position after
+-- the agreed step.
 abbrev pub successor : Composition → Position → Ports → Next
 successor run at ports = ends_or (first_some (ends_at run at ports)) (after run at ports)

@@ -1,15 +1,15 @@
--- Which system a text says, and at which line and by which rule any other text is refused.
+-- Which system a text has, and at which line and by which rule any other text is refused.
 --
---   rule 1   a byte before the comment is none that code may hold
+--   rule 1   a byte before the comment is not allowed in code
 --   rule 2   the text is too long
 --   rule 3   the line is too long
 --   rule 4   a line that is not blank has none of the forms
---   rule 5   a form stands where it may not
+--   rule 5   a form is not allowed where it is
 --   rule 6   a block is open at the end
 --   rule 7   the text does not begin with a header
 --
--- A text is of version 2 where its first line that is not blank is the header of version 2, and then has the forms of
--- both versions. Any other text has those of version 1 alone.
+-- A text is of version 2 where its first line that is not blank is the header of version 2. It then has the forms of
+-- both versions. Any other text has only those of version 1.
 use Rattle.std.specs.Prelude.{◌≡◌, ◌≢◌, ◌≤◌, ◌<◌, ◌⊎◌, ℕ, suc, not, nat_le, List, [], ◌∷◌, ◌++◌, length, IsTrue, IsFalse}
 use Rattle.std.specs.List.{filter, list_all, AllZip}
 use Rattle.model_rules.specs.Limits.{line_limit, text_limit}
@@ -30,19 +30,19 @@ pub record BeginsVersion2 (lines : List (List ℕ)) : Type 0 where
   pub before_is_blank : IsTrue (list_all is_blank_line before)
   pub is_header : HasForm (form.Header 2) line
 
--- A line has a form in a text of these lines: one of version 2 only where the text is of that version.
+-- A line has a form in a text of these lines: a form of version 2 only where the text is of that version.
 pub record HasFormIn (text : List (List ℕ)) (some : LineForm) (line : List ℕ) : Type 0 where
   pub has_form : HasForm some line
   pub of_version : IsTrue (is_of_version_2 some) → BeginsVersion2 text
 
--- The lines, of a text of these, that are not blank have the forms, one for one.
+-- The lines that are not blank, in a text of these lines, have the forms, one for one.
 abbrev pub HaveForms : List (List ℕ) → List LineForm → List (List ℕ) → Type 0
 HaveForms text forms lines = AllZip (HasFormIn text) forms (filter (λ line. not (is_blank_line line)) lines)
 
--- ---- Texts that say a system
+-- ---- Texts that have a system
 
--- The text says the system: it and its lines are short enough, and its lines that are not blank have the forms
--- of the header and of parts which say the system, each where it may stand.
+-- The text has the system. The text and its lines are short enough. Its lines that are not blank have the forms of
+-- the header and of the system's parts, each where it is allowed.
 pub record Reads (text : List ℕ) (system : System) : Type 0 where
   pub parts : List Part
   pub says : system_of system.version parts ≡ system
@@ -57,7 +57,7 @@ pub record Reads (text : List ℕ) (system : System) : Type 0 where
 abbrev pub HasNoForm : List (List ℕ) → List ℕ → Type 0
 HasNoForm text line = IsFalse (is_blank_line line) × ((some : LineForm) → HasFormIn text some line → ⊥)
 
--- The line has a form that may not stand behind the lines before it.
+-- The line has a form that is not allowed after the lines before it.
 pub record IsMisplaced (text before : List (List ℕ)) (line : List ℕ) : Type 0 where
   pub forms : List LineForm
   pub some : LineForm
@@ -65,7 +65,7 @@ pub record IsMisplaced (text before : List (List ℕ)) (line : List ℕ) : Type 
   pub has_form : HasFormIn text some line
   pub misplaced : IsFalse (may_stand (and_lines no_lines forms) some)
 
--- The first line that is not blank is no header.
+-- The first line that is not blank is not a header.
 pub record LacksHeader (before : List (List ℕ)) (line : List ℕ) : Type 0 where
   pub before_is_blank : IsTrue (list_all is_blank_line before)
   pub is_first : IsFalse (is_blank_line line)
@@ -89,8 +89,8 @@ pub record BreaksAt (lines : List (List ℕ)) (number rule : ℕ) : Type 0 where
   pub is_number : number ≡ suc (length before)
   pub breaks : LineBreaks lines rule before line
 
--- The lines break the rule at that number: there is such a line, or all are blank and there is no header at
--- line 1.
+-- The lines break the rule at that line number: such a line breaks it, or all lines are blank, so that line 1 lacks
+-- the header.
 abbrev pub Breaks : List (List ℕ) → ℕ → ℕ → Type 0
 Breaks lines number rule =
     BreaksAt lines number rule ⊎ (IsTrue (list_all is_blank_line lines) × (number ≡ 1) × (rule ≡ 7))
@@ -111,8 +111,8 @@ pub record IsUnended (lines : List (List ℕ)) (number rule : ℕ) : Type 0 wher
 
 -- ---- Texts that are refused
 
--- The text is refused at the line by the rule. Rule 2 is judged first; then the lines in their order, and at
--- last whether a block is open.
+-- The text is refused at the line by the rule. Rule 2 is judged first; then the lines in their order, and last
+-- whether a block is open.
 abbrev pub IsRefused : List ℕ → ℕ → ℕ → Type 0
 IsRefused text number rule =
     ((text_limit < size_of text) × (number ≡ 1) × (rule ≡ 2))

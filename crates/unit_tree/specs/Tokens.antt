@@ -18,7 +18,7 @@ is_blank byte = (byte == 32) || (byte == 9)
 abbrev pub is_letter : ℕ → Bool
 is_letter byte = (nat_le 97 byte && nat_le byte 122) || (nat_le 65 byte && nat_le byte 90) || (byte == 95)
 
--- What words and numbers are made of: letters, digits and `_`.
+-- The bytes of words and numbers: letters, digits and `_`.
 abbrev pub is_word_byte : ℕ → Bool
 is_word_byte byte = is_letter byte || is_digit byte
 
@@ -104,23 +104,23 @@ IsSpelling (token.Name name) text = (text ≡ name) × IsName name
 IsSpelling (token.Number digits decimals) text = IsNumber digits decimals text
 IsSpelling (token.Symbol symbol) text = text ≡ symbol_text symbol
 
--- Whether a first byte is there and passes the test.
+-- Whether there is a first byte and it passes the test.
 abbrev pub begins_with : (ℕ → Bool) → List ℕ → Bool
 begins_with test [] = false
 begins_with test (byte ∷ bytes) = test byte
 
--- Whether a point with a digit behind it comes first.
+-- Whether the bytes begin with a point and a digit.
 abbrev pub begins_with_fraction : List ℕ → Bool
 begins_with_fraction [] = false
 begins_with_fraction (byte ∷ bytes) = (byte == 46) && begins_with is_digit bytes
 
--- The text before these bytes is the longest symbol that begins there.
+-- No longer symbol begins where this symbol, followed by these bytes, does.
 abbrev pub IsLongest : Symbol → List ℕ → Type 0
 IsLongest symbol rest =
     (other : Symbol) (after : List ℕ) → symbol_text symbol ++ rest ≡ symbol_text other ++ after → length (symbol_text other) ≤ length (symbol_text symbol)
 
--- The token ends before these bytes: a word or a number goes as far as it can, no letter and no `_` follows
--- a number directly, and a symbol is the longest one.
+-- The token ends before these bytes. A word or a number is as long as possible; no letter and no `_`
+-- follows a number directly; and a symbol is the longest one.
 abbrev pub Ends : Token → List ℕ → Type 0
 Ends (token.Keyword keyword) rest = IsFalse (begins_with is_word_byte rest)
 Ends (token.Name name) rest = IsFalse (begins_with is_word_byte rest)
@@ -128,7 +128,7 @@ Ends (token.Number digits decimals) rest =
     IsFalse (begins_with is_word_byte rest) × (decimals ≡ 0 → IsFalse (begins_with_fraction rest))
 Ends (token.Symbol symbol) rest = IsLongest symbol rest
 
--- The line begins with the token, perhaps after blanks, and the rest comes behind it.
+-- The line begins with the token, perhaps after blanks, and the rest follows it.
 pub record BeginsWith (line : List ℕ) (first : Token) (rest : List ℕ) : Type 0 where
   pub blanks : List ℕ
   pub text : List ℕ

@@ -23,34 +23,34 @@ pub record Stand : Type 0 where
 abbrev pub IsStand : Composition → Stand → Type 0
 IsStand run stand = IsAssignment run stand.at.states stand.ports
 
--- The one goes on to the other.
+-- The second stand is at the successor of the first.
 abbrev pub Goes : Composition → Stand → Stand → Type 0
 Goes run one next = (successor run one.at one.ports ≡ goes next.at) × IsStand run next
 
--- From a stand the later ones follow, each the successor of the one before, until the run ends.
+-- The later stands follow a stand, each at the successor of the one before, until the run ends with the ending.
 abbrev pub Follows : Composition → Stand → List Stand → Ending → Type 0
 Follows run one [] ending = successor run one.at one.ports ≡ ends ending
 Follows run one (next ∷ others) ending = Goes run one next × Follows run next others ending
 
--- From the position the stands follow, the first of them at it, and the run ends so.
+-- The stands go on from the position, the first of them at it, until the run ends with the ending.
 abbrev pub GoesOnFrom : Composition → Position → List Stand → Ending → Type 0
 GoesOnFrom run at [] ending = ⊥
 GoesOnFrom run at (first ∷ others) ending = (first.at ≡ at) × IsStand run first × Follows run first others ending
 
--- The stands are the trace, and it ends so: they go on from the first position.
+-- The stands are the trace, and the ending is its end: they go on from the first position.
 abbrev pub IsTrace : Composition → List Stand → Ending → Type 0
 IsTrace run = GoesOnFrom run (first_position run)
 
--- At the stand the run comes to its trial: no output faults, it is not at its stop, it may have more rows,
--- and no `max` faults.
+-- At the stand the run begins a trial: no output has a fault, it is not the stop, there may be more rows, and no `max`
+-- has a fault.
 pub record IsGoing (run : Composition) (stand : Stand) : Type 0 where
   pub ports_known : port_fault run stand.at.states stand.ports ≡ None
   pub before_stop : stop_end run stand.at ≡ None
   pub rows_left : row_end run stand.at ≡ None
   pub limits_told : max_end run stand.at stand.ports ≡ None
 
--- A stand is reached from another by so many successors, the last of them from `last`, which is the stand itself
--- where there is none.
+-- A stand is reached from another by this many successors. `last` is the stand before the last of them, or the stand
+-- itself where there are none.
 abbrev pub Reaches : Composition → ℕ → Stand → Stand → Stand → Type 0
 Reaches run zero last from to = (from ≡ to) × (last ≡ to)
 Reaches run (suc count) last from to = (earlier : Stand) × Reaches run count earlier from last × Goes run last to
@@ -66,7 +66,7 @@ abbrev pub row_unless : Option Ending → Point → Ports → Option Row
 row_unless (Some fault) point ports = None
 row_unless None point ports = Some (record { point = point; words = filter_map (λ word. word) ports })
 
--- The row of a stand. One with a port fault, which can only be the last of a trace, has none.
+-- The row of a stand. A stand with a port fault has none; it can only be the last of a trace.
 abbrev pub row_at : Composition → Stand → Option Row
 row_at run stand = row_unless (port_fault run stand.at.states stand.ports) stand.at.point stand.ports
 
@@ -74,7 +74,7 @@ row_at run stand = row_unless (port_fault run stand.at.states stand.ports) stand
 abbrev pub rows_of : Composition → List Stand → List Row
 rows_of run stands = filter_map (row_at run) stands
 
--- The point at which a trace ends: that of its last stand. Without stands it is the first point of time.
+-- The point at which a trace ends: that of its last stand. Without stands it is the first point.
 abbrev pub last_point : List Stand → Point
 last_point [] = record { t = 0; n = 0 }
 last_point (stand ∷ []) = stand.at.point
@@ -101,29 +101,29 @@ pub record IsPositionOf (run : Composition) (number : ℕ) (at : Position) : Typ
 
 -- ---- The trace of a system
 
--- The rows are those of a trace of what is run of the system, `last` is the point at which it ends, and it ends so. A system
--- in range that is well-formed and has no cycle has exactly one.
+-- The rows are those of a trace of the system's composition, `last` is the point at which it ends, and `ending` is its
+-- end. A system in range that is well-formed and has no cycle has exactly one.
 pub record IsTraceOf (system : System) (rows : List Row) (last : Point) (ending : Ending) : Type 0 where
   pub stands : List Stand
   pub trace : IsTrace (run_of system) stands ending
   pub rows_are : rows ≡ rows_of (run_of system) stands
   pub last_is : last ≡ last_point stands
 
--- ---- Cells: steps that members do
+-- ---- Cells: the steps of members
 
--- How many members do a step, and are not held in it.
+-- How many members make a step, and are not held.
 abbrev pub steps_there : List (Option (Result Moved Fault)) → ℕ
 steps_there steps = count_by is_some steps
 
--- The cells of the trial, and of the step made anew.
+-- The cells of the trial, and of the redo.
 abbrev pub cells_of_trial : Composition → Stand → ℕ
 cells_of_trial run stand = steps_there (trial run stand.at stand.ports)
 
 abbrev pub cells_of_redo : Composition → Stand → ℕ
 cells_of_redo run stand = steps_there (steps_by run stand.at stand.ports (agreed run stand.at stand.ports))
 
--- The cells at a stand: none where it ends before a trial, else those of the trial, and those of a step made anew
--- where there is one.
+-- The cells at a stand: none where the run ends before a trial, else those of the trial, and those of a redo where
+-- there is one.
 abbrev pub cells_at : Composition → Stand → ℕ
 cells_at run stand =
     if is_some (first_some (port_fault run stand.at.states stand.ports ∷ stop_end run stand.at ∷ row_end run stand.at ∷ max_end run stand.at stand.ports ∷ []))
@@ -134,20 +134,20 @@ cells_at run stand =
 abbrev pub cells_of : Composition → List Stand → ℕ
 cells_of run stands = sum_by (cells_at run) stands
 
--- The count is that of the cells of a trace of what is run of the system.
+-- The count is that of the cells of a trace of the system's composition.
 pub record HasCells (system : System) (count : ℕ) : Type 0 where
   pub stands : List Stand
   pub ending : Ending
   pub trace : IsTrace (run_of system) stands ending
   pub is : count ≡ cells_of (run_of system) stands
 
--- ---- What positions keep
+-- ---- What is known of positions
 
--- The words are one for each state of a member, each of its type.
+-- The words are those of a member's states: one for each, of its type.
 abbrev pub AreWordsOf : List State → List ℤ → Type 0
 AreWordsOf states words = AllZip (λ state word. is_word_of state.ty word ≡ true) states words
 
--- A position keeps one state for each member, each with its words.
+-- A position has one state for each member, each with the words of its states.
 abbrev pub HasWords : Composition → Position → Type 0
 HasWords run at = AllZip (λ member state. AreWordsOf member.component.unit.states state) run.members at.states
 

@@ -21,13 +21,13 @@ use Rattle.unit_tree.specs.declared.expr.UnOp.TheVariants as of
 use Rattle.unit_tree.specs.declared.expr.Expr.{Expr, fold-Expr}
 use Rattle.unit_tree.specs.declared.expr.Expr.TheOpen.{Expr-F}
 
--- What follows where there was no fault; else the fault.
+-- The result of the second where the first has no fault; else the fault of the first.
 infixl 10 ◌>>=◌
 abbrev pub ◌>>=◌ : {A B : Type 0} → Result A Fault → (A → Result B Fault) → Result B Fault
 (Ok x) >>= next = next x
 (Err fault) >>= next = Err fault
 
--- A word, where there was no fault, as a value of the kind.
+-- An outcome as a value of the kind: its word, or its fault.
 abbrev pub as_kind : Kind → Outcome → Result Value Fault
 as_kind kind (Ok word) = Ok (record { kind = kind; word = word })
 as_kind kind (Err fault) = Err fault
@@ -40,19 +40,19 @@ truth false = record { kind = kinds.Bool; word = pos 0 }
 abbrev pub holds : Value → Bool
 holds value = not (is_zero value.word)
 
--- A number that is written with decimals is a fixed-point one with as many.
+-- The kind of a number that is written with this many decimals: Int for none, else fixed point.
 abbrev pub kind_of_number : ℕ → Kind
 kind_of_number zero = kinds.Int
 kind_of_number decimals = kinds.Fixed decimals
 
--- The value of a name: the word of the first variable that has it, in its type's kind. A name that no variable
--- has is the Int 0.
+-- The value of a name: the word of the first variable with this name, in its type's kind. A name that no
+-- variable has gives the Int 0.
 abbrev pub value_of_name : List Variable → List ℤ → List ℕ → Value
 value_of_name (variable ∷ variables) (word ∷ words) name =
     if bytes_eq variable.name name then record { kind = kind_of variable.ty; word = word } else value_of_name variables words name
 value_of_name _ _ name = record { kind = kinds.Int; word = pos 0 }
 
--- A word of the kind as one with so many decimals: a whole number has none before.
+-- The word of the kind, converted to this many decimals. An integer has no decimals.
 abbrev pub with_decimals : ℕ → Kind → ℤ → Outcome
 with_decimals decimals (kinds.Fixed had) word =
     if nat_le had decimals then scaled_up (decimals - had) word else scaled_down (had - decimals) word
@@ -63,12 +63,12 @@ abbrev pub whole_part : Kind → ℤ → Outcome
 whole_part (kinds.Fixed decimals) word = scaled_down decimals word
 whole_part _ word = Ok word
 
--- `*`, whose meaning is another for fixed-point operands.
+-- `*`, which has another meaning for fixed-point operands.
 abbrev pub product_of : Kind → ℤ → ℤ → Outcome
 product_of (kinds.Fixed decimals) left right = fixed_product decimals left right
 product_of _ left right = product left right
 
--- `/`, which is for fixed-point operands alone.
+-- `/`, which is only for fixed-point operands.
 abbrev pub ratio_of : Kind → ℤ → ℤ → Outcome
 ratio_of (kinds.Fixed decimals) left right = fixed_quotient decimals left right
 ratio_of _ left right = quotient left right
@@ -83,8 +83,8 @@ abbrev pub IsUnary : UnOp → Type 0
 IsUnary (of.ToFix decimals) = decimals ≤ decimals_limit
 IsUnary _ = ⊤
 
--- The numbers of decimals in an expression are at most 9: the test of one node, with that of each part in
--- its place, and of the whole.
+-- Numbers of decimals in an expression are at most 9: the test of one node, where its parts are given as their
+-- tests, and of the whole expression.
 abbrev pub unary_is_ranged : UnOp → Bool
 unary_is_ranged (of.ToFix decimals) = nat_le decimals decimals_limit
 unary_is_ranged _ = true
@@ -105,14 +105,14 @@ abbrev pub AreTyped : List Variable → Type 0
 AreTyped [] = ⊤
 AreTyped (variable ∷ variables) = IsKind (kind_of variable.ty) × AreTyped variables
 
--- An environment has a word for each variable, and its times are words.
+-- An environment has a word for each variable, and its times fit words.
 pub record IsSound (env : Environment) : Type 0 where
   pub typed : AreTyped env.variables
   pub one_each : length env.words ≡ length env.variables
   pub time : env.time < 2 ^ 63
   pub step : env.step < 2 ^ 63
 
--- What an operation on one value gives.
+-- The result of an operation on one value.
 abbrev pub unary_value : UnOp → Value → Result Value Fault
 unary_value of.Neg x = as_kind x.kind (negated x.word)
 unary_value of.Not x = Ok (truth (not (holds x)))
@@ -120,7 +120,7 @@ unary_value of.Abs x = as_kind x.kind (magnitude x.word)
 unary_value of.ToInt x = as_kind kinds.Int (whole_part x.kind x.word)
 unary_value (of.ToFix decimals) x = as_kind (kinds.Fixed decimals) (with_decimals decimals x.kind x.word)
 
--- What an operation on two values gives.
+-- The result of an operation on two values.
 abbrev pub binary_value : BinOp → Value → Value → Result Value Fault
 binary_value by.Add x y = as_kind x.kind (sum x.word y.word)
 binary_value by.Sub x y = as_kind x.kind (difference x.word y.word)
@@ -139,18 +139,18 @@ binary_value by.Or x y = Ok (truth (holds x || holds y))
 binary_value by.Min x y = as_kind x.kind (Ok (int_min x.word y.word))
 binary_value by.Max x y = as_kind x.kind (Ok (int_max x.word y.word))
 
--- A value brought into two bounds, or the first fault of the three.
+-- A value limited by two bounds, or the first fault of the three.
 abbrev pub clamped_value : Result Value Fault → Result Value Fault → Result Value Fault → Result Value Fault
 clamped_value value low high =
     value >>= λ x. (low >>= λ l. (high >>= λ h. Ok (record { kind = x.kind; word = clamped x.word l.word h.word })))
 
--- What a tree's meaning is: in each environment a value, or a fault.
+-- The meaning of a tree: in each environment a value or a fault.
 abbrev pub Meaning : Type 0
 Meaning = Environment → Result Value Fault
 
--- One node, with the meaning of each part in its place. Operands are taken from left to right and the
--- first fault is the value; `if` takes its condition and then one of the two others. An environment has words
--- and no events: in it all event inputs are absent, and what is absent has the word 0.
+-- One node, whose parts are given as their meanings. Operands are evaluated from left to right, and the first
+-- fault is the result; `if` evaluates its condition and then one of the two others. An environment has words
+-- and no events: in it all event inputs are absent, and `absent` has the word 0.
 abbrev pub node_meaning : Expr-F Meaning → Meaning
 node_meaning (Expr-F.Number word decimals) env = Ok (record { kind = kind_of_number decimals; word = word })
 node_meaning (Expr-F.Truth told) env = Ok (truth told)

@@ -1,5 +1,5 @@
--- Well-formed systems. Each rule has a test, which a canonical line passes where it breaks the rule. The rules are
--- judged in the order of their numbers, each over the whole system and only where all earlier ones hold.
+-- Well-formed systems. Each rule has a test, which is true for a canonical line that breaks the rule. The rules are
+-- judged in the order of their numbers, each over the whole system and only where all earlier rules hold.
 use Rattle.std.specs.Prelude.{◌≡◌, ℕ, ◌*◌, max, Bool, true, false, not, ◌&&◌, ◌||◌, ◌==◌, nat_le, nat_lt, if◌then◌else◌, ℤ, List, [], ◌∷◌, ◌++◌, map, length}
 use Rattle.std.specs.Prelude.{Option, Some, None, is_none, Result, Ok, Err}
 use Rattle.std.specs.Bool.{beq}
@@ -34,13 +34,13 @@ use Rattle.unit_tree.specs.declared.system.PortName.{PortName}
 use Rattle.unit_tree.specs.declared.system.System.{System}
 use Rattle.unit_tree.specs.declared.unit.Unit.{Unit}
 
--- ---- Lines that say a thing again
+-- ---- Lines that repeat an earlier one
 
 abbrev pub is_said : {A : Type 0} → (A → A → Bool) → List A → Option A → Bool
 is_said same before None = false
 is_said same before (Some thing) = list_any (same thing) before
 
--- An earlier line says the same, by what is asked of a line and when two of it are the same.
+-- An earlier line has the same item as this one: `asked` gives the item of a line, and `same` compares two items.
 abbrev pub says_again : {A : Type 0} → (A → A → Bool) → (LineForm → Option A) → Site → Bool
 says_again same asked site = is_said same (filter_map asked site.earlier) (asked site.line)
 
@@ -80,13 +80,13 @@ abbrev pub redeclares : System → Site → Bool
 redeclares system site =
     says_again bytes_eq unit_declared site || (says_again bytes_eq instance_declared site || says_again bytes_eq name_declared site)
 
--- ---- Rule 9: a name is not declared, or is none that may be used there
+-- ---- Rule 9: a name is not declared, or may not be used there
 
 abbrev pub is_param_of : Option Unit → List ℕ → Bool
 is_param_of None name = false
 is_param_of (Some unit) name = is_among (param_names unit) name
 
--- An output names what it may not use, or a need that is no input.
+-- An output uses a name that it may not use, or a need is not an input.
 abbrev pub misuses : Unit → List (List ℕ) → Expr → Bool
 misuses unit needs value = not (keeps_to (output_uses unit) value) || not (are_among (input_names unit) needs)
 
@@ -103,10 +103,10 @@ misnames system TopScope (form.Connect wire) = is_none (output_at system wire.fr
 misnames system TopScope (form.Sample port) = is_none (output_at system port)
 misnames system _ _ = false
 
--- ---- Rule 10: a kind is wrong, `absent` stands where it may not, version 1 speaks of events, or a literal has the wrong
--- form for its type
+-- ---- Rule 10: a kind is wrong, `absent` is where it is not allowed, `absent` or `present` is used in version 1, or a
+-- literal has the wrong form for its type
 
--- The expression does not have the kind that is asked for, or an operand in it has a wrong one.
+-- The expression does not have the required kind, or an operand in it has a wrong one.
 abbrev pub is_not_of : Option Kind → Unit → Expr → Bool
 is_not_of asked unit value = not (has_kind asked value (kinds_in unit))
 
@@ -114,7 +114,7 @@ abbrev pub is_misformed : Result ℤ LiteralFault → Bool
 is_misformed (Err Form) = true
 is_misformed _ = false
 
--- A literal for a parameter that an instance sets.
+-- The word of a literal for a parameter that an instance sets.
 abbrev pub setting_word : System → Instance → List ℕ → Literal → Option (Result ℤ LiteralFault)
 setting_word system instance name value =
     option_map (λ param. word_of_literal param.ty value) (option_and_then (param_named name) (unit_of_instance system instance))
@@ -131,8 +131,9 @@ abbrev pub on_literal : (Result ℤ LiteralFault → Bool) → Option (Result �
 on_literal test None = false
 on_literal test (Some read) = test read
 
--- `absent` may stand as the whole expression of an event output, and as a branch of an `if` that may stand so. With a zero
--- of the output's kind for each of these the expression has this kind. Any other `absent` has none.
+-- `absent` is allowed as the whole expression of an event output, and as a branch of an `if` that is allowed there.
+-- With a zero of the output's kind in place of each of these, the expression has this kind. Any other `absent` has no
+-- kind.
 abbrev pub mistakes_kind : Scope → LineForm → Bool
 mistakes_kind (UnitScope unit) (form.Output output) = is_not_of (Some (kind_of output.ty)) unit output.value
 mistakes_kind (UnitScope unit) (form.EventOutput event) =
@@ -155,7 +156,7 @@ is_beyond _ = false
 abbrev pub is_out_of_range : System → Site → Bool
 is_out_of_range system site = on_literal is_beyond (literal_on system site.scope site.line)
 
--- ---- Rule 12: an output uses an input, be it in `present`, that is not in its needs
+-- ---- Rule 12: an output uses an input that is not in its needs, also in `present`
 
 abbrev pub uses_other_input : Unit → List (List ℕ) → Expr → Bool
 uses_other_input unit needs value =
@@ -166,12 +167,12 @@ hides_need (UnitScope unit) (form.Output output) = uses_other_input unit output.
 hides_need (UnitScope unit) (form.EventOutput event) = uses_other_input unit event.needs event.value
 hides_need _ _ = false
 
--- ---- Rule 13: an input is connected twice, at the second
+-- ---- Rule 13: an input is connected twice, at the second connection
 
 abbrev pub connects_again : System → Site → Bool
 connects_again system site = says_again same_port input_connected site
 
--- ---- Rule 14: the types of a connection's ends are not equal, or one end alone is an event port
+-- ---- Rule 14: the types of a connection's ends are not equal, or only one end is an event port
 
 -- Types are equal where their kinds and their ranges are.
 abbrev pub same_type : Ty → Ty → Bool
@@ -186,10 +187,10 @@ abbrev pub joins_other_types : System → LineForm → Bool
 joins_other_types system (form.Connect wire) = differ (output_at system wire.from) (input_at system wire.to)
 joins_other_types system _ = false
 
--- ---- Rule 16: there are too many of a kind, at the first too many
+-- ---- Rule 16: there are too many of a kind, at the first that is too many
 --
 -- This rule and the next two are judged on the lines of the plain form that a line becomes: an event port, and a
--- connection of event ports, are two.
+-- connection of event ports, become two.
 
 -- How many there may be in one scope.
 abbrev pub limit_of : LineForm → Option ℕ
@@ -208,8 +209,8 @@ abbrev pub is_above : Option ℕ → ℕ → Bool
 is_above None count = false
 is_above (Some limit) count = nat_lt limit count
 
--- Among all lines of a scope so far there are more like this one than there may be. All lines between `step` and its own
--- `end` count as step lines, of which there may be 500.
+-- Up to this line, a scope has more lines of this kind than allowed. All lines between `step` and its own `end` count
+-- as step lines, of which 500 are allowed.
 abbrev pub is_one_too_many : Scope → List LineForm → LineForm → Bool
 is_one_too_many (StepScope unit) all line = nat_lt 500 (length all)
 is_one_too_many scope all line = is_above (limit_of line) (count_by (are_alike line) all)
@@ -248,18 +249,18 @@ abbrev pub lacks_stop : System → LineForm → Bool
 lacks_stop system (form.Header version) = is_none system.stop
 lacks_stop system _ = false
 
--- ---- Rule 20: `stop` or `longest` is no whole number of ticks, or above 10^15 ticks, or `longest` is 0
+-- ---- Rule 20: `stop` or `longest` is not a whole number of ticks, or is above 10^15 ticks, or `longest` is 0
 
 abbrev pub unit_resolution : Option Unit → ℕ
 unit_resolution None = 0
 unit_resolution (Some unit) = unwrap_or unit.resolution 0
 
--- The resolution of a system: the greatest of its instances' units; 0 where there is no instance. A tick is ten
--- to the power of minus this many seconds.
+-- The resolution of a system: the greatest of the units of its instances; 0 where there is no instance. A tick is 10 to
+-- the power of minus this number, in seconds.
 abbrev pub resolution_of : System → ℕ
 resolution_of system = fold max 0 (map (λ instance. unit_resolution (unit_of_instance system instance)) system.instances)
 
--- Seconds that are a whole number of ticks, at least so many and at most 10^15.
+-- Seconds that are a whole number of ticks, at least `least` and at most 10^15.
 abbrev pub is_length : ℕ → Result ℕ SecondsFault → Bool
 is_length least (Ok ticks) = nat_le least ticks
 is_length least (Err fault) = false
@@ -354,12 +355,12 @@ abbrev pub or_later : Rule → Option Refusal → List ℕ → Option Refusal
 or_later judged later [] = later
 or_later judged later (line ∷ lines) = Some (record { by = judged.number; at = line })
 
--- The least rule that a line breaks, and the first line that breaks it.
+-- The least rule that a line breaks, with the first line that breaks it.
 abbrev pub refusal_by : List Rule → System → Option Refusal
 refusal_by [] system = None
 refusal_by (judged ∷ later) system = or_later judged (refusal_by later system) (lines_breaking judged system)
 
--- The refusal is by the first of the rules that a line breaks, and at the first line that breaks it.
+-- The refusal is by the first of the rules that some line breaks, at the first line that breaks it.
 pub record IsRefusal (judged : List Rule) (system : System) (refusal : Refusal) : Type 0 where
   pub kept : List Rule
   pub broken : Rule

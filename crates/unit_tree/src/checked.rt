@@ -1,8 +1,8 @@
 use crate::System;
 use std::marker::Model;
 
-/// A system that was judged: it is in range and well-formed, and its plain form is at hand. Contracts see it as the
-/// system itself.
+/// A system that was judged: it is in range and well-formed. Its plain form is kept with it. Contracts see it as
+/// the system itself.
 #[derive(Debug, Drop)]
 pub struct Checked {
     source: System,
@@ -32,7 +32,7 @@ impl Checked {
     ghost use Rattle.unit_tree.specs.Printable.{IsRanged};
     ghost use Rattle.unit_tree.specs.WellFormed.{IsWellFormed};
 
-    /// Of a system and its plain form.
+    /// Returns a system together with its plain form.
     pub fn new(source: System, plain: System) -> Checked
         requires ranged { IsRanged source }
         requires well_formed { IsWellFormed source }
@@ -49,7 +49,7 @@ impl Checked {
         &self.source
     }
 
-    /// Its plain form, which has no event ports and is what is run.
+    /// Its plain form, which has no event ports and is the system that is run.
     pub fn system(&self) -> &System
         ensures plain { result.now ≡ plain_form self.now }
         ensures ranged { IsRanged self.now }

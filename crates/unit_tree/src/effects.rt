@@ -8,7 +8,8 @@ use crate::evaluate::{is_true, value};
 use crate::line::Line;
 use fixed_words::{Fault, List, fits};
 
-/// Stores a word for the first variable of the name. [`Fault::Range`] where it is none of its type.
+/// Stores a word in the first variable of the name. [`Fault::Range`] where it is not a word of the
+/// variable's type.
 fn store(variables: &[Variable], words: &mut List<i64>, name: &[u8], word: i64) -> Result<(), Fault>
     requires { length words.old ≡ length variables.now }
     ensures ok { OnOk result (stored variables.now words.old name.now word ≡ Ok words.new) }
@@ -49,7 +50,7 @@ fn accept(env: &mut Environment, word: i64) -> Result<(), Fault>
     }
 }
 
-/// Runs one line. After a fault the environment is of no use.
+/// Runs one line. After a fault the environment must not be used.
 #[cycle(run)]
 fn run_line(line: &Line, env: &mut Environment) -> Result<(), Fault>
     requires ranged { IsTrue (line_is_ranged line.now) }
@@ -81,7 +82,7 @@ fn run_line(line: &Line, env: &mut Environment) -> Result<(), Fault>
     }
 }
 
-/// Runs lines so many times.
+/// Runs lines `count` times.
 #[cycle(run)]
 #[tactic(auto, using(crate::proofs::EffectLemmas::times_next))]
 fn repeat(count: u32, body: &[Line], env: &mut Environment) -> Result<(), Fault>
@@ -95,7 +96,7 @@ fn repeat(count: u32, body: &[Line], env: &mut Environment) -> Result<(), Fault>
     Ok(())
 }
 
-/// Runs lines in their order. After a fault the environment is of no use.
+/// Runs lines in their order. After a fault the environment must not be used.
 #[cycle(run)]
 pub fn run_lines(lines: &[Line], env: &mut Environment) -> Result<(), Fault>
     requires ranged { IsTrue (lines_are_ranged lines.now) }

@@ -3,22 +3,22 @@ use fixed_words::Fault;
 /// Where in a component a fault was.
 #[derive(Clone, Copy, Debug, PartialEq, Eq)]
 pub enum Place {
-    /// In an output, by its number in the plain form of the unit, from 0: there an event output is two.
+    /// In an output, by its number from 0 in the plain form of the unit, where an event output is two outputs.
     Output(u32),
-    /// In its greatest step, `max`.
+    /// In its `max`.
     Max,
     /// In a step.
     Step,
 }
 
-/// How a run ends. Instances are told by their numbers from 0.
+/// How a run ends. Instances are named by their numbers from 0.
 #[derive(Clone, Copy, Debug, PartialEq, Eq)]
 pub enum Ending {
     /// At its stop.
     Completed,
-    /// With as many rows as there may be.
+    /// With as many rows as the row budget allows.
     RowBudget,
-    /// Where as many steps of length zero have been made in a row as there may be, and the agreed step is one more.
+    /// The agreed step has length zero, and the zero budget is already spent.
     ZeroBudget,
     /// By a fault of an instance.
     UnitFault {

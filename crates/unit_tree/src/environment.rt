@@ -1,23 +1,23 @@
 use crate::Name;
 use fixed_words::{Kind, List, Ty};
 
-/// A word with the kind of the expression that it is the value of.
+/// A word, with its kind, as the value of an expression.
 #[derive(Clone, Copy, Debug, PartialEq, Eq)]
 pub struct Value {
     pub kind: Kind,
     pub word: i64,
 }
 
-/// A parameter, state, local or input as expressions and step lines see it.
+/// A parameter, state, local or input, with its name and type, as expressions and step lines read it.
 #[derive(Debug, Drop)]
 pub struct Variable {
     pub name: Name,
     pub ty: Ty,
 }
 
-/// What expressions and step lines of a component see: its variables with their words, the local time
-/// `t`, the local step `h`, and the length of the step that it accepts, which is `h` until a line
-/// accepts another.
+/// What expressions and step lines of a component can read: its variables with their words, the local
+/// time `t`, the local step `h`, and the accepted length. The accepted length is `h` until a line
+/// accepts another length.
 #[derive(Debug, Drop)]
 pub struct Environment {
     pub variables: List<Variable>,

@@ -1,4 +1,5 @@
-//! Expressions and step lines, computed as they are defined: small and slow, to compare faster code with.
+//! Expressions and step lines, evaluated as they are defined. The code is small and slow; faster code is
+//! compared with it.
 ghost use Rattle.std.specs.Prelude.{◌≡◌, ◌≤◌, ◌<◌, ◌^◌, ◌↔◌, length, IsTrue, IfOk, not};
 ghost use Rattle.fixed_words.specs.Operations.{is_zero};
 ghost use Rattle.unit_tree.specs.Values.{as_kind, kind_of_number, truth as truth_value, holds, value_of, value_of_name, with_decimals, whole_part, product_of, ratio_of, unary_value, binary_value, clamped_value, IsKind, IsUnary, is_ranged, AreTyped, IsSound};
@@ -9,7 +10,7 @@ use fixed_words::{
     Fault, Kind, Ty, abs, add, div, fix_div, fix_mul, mul, neg, rem, scale_down, scale_up, sub,
 };
 
-/// The kind of a number that is written with so many decimals.
+/// The kind of a number that is written with this many decimals.
 pub fn kind_of_number(decimals: u8) -> Kind
     ensures { result ≡ kind_of_number decimals }
 {
@@ -42,7 +43,7 @@ fn of_kind(kind: Kind, word: Result<i64, Fault>) -> Result<Value, Fault>
     Ok(Value { kind, word: word? })
 }
 
-/// The value of a name: that of the first variable which has it.
+/// The value of a name: that of the first variable with this name.
 fn named(variables: &[Variable], words: &[i64], name: &[u8]) -> Value
     requires typed { AreTyped variables.now }
     requires one_each { length words.now ≡ length variables.now }
@@ -63,7 +64,7 @@ fn named(variables: &[Variable], words: &[i64], name: &[u8]) -> Value
     }
 }
 
-/// The word of the kind as one with so many decimals.
+/// The word of the kind, converted to this many decimals.
 fn rescaled(decimals: u8, kind: Kind, word: i64) -> Result<i64, Fault>
     requires to { decimals ≤ 9 }
     requires from { IsKind kind }
@@ -104,7 +105,7 @@ fn unary(op: UnOp, x: Value) -> Result<Value, Fault>
     }
 }
 
-/// `*`, whose meaning is another for fixed-point operands.
+/// `*`, which has another meaning for fixed-point operands.
 fn times(kind: Kind, x: i64, y: i64) -> Result<i64, Fault>
     requires { IsKind kind }
     ensures { result ≡ product_of kind x y }
@@ -151,7 +152,7 @@ fn binary(op: BinOp, x: Value, y: Value) -> Result<Value, Fault>
     }
 }
 
-/// `clamp`: a value brought into two bounds, or the first fault of the three.
+/// `clamp`: a value limited by two bounds, or the first fault of the three operands.
 fn clamp(
     x: Result<Value, Fault>,
     low: Result<Value, Fault>,
@@ -170,7 +171,8 @@ fn clamp(
     })
 }
 
-/// The value of an expression in an environment: operands from left to right, and the first fault counts.
+/// The value of an expression in an environment. Operands are evaluated from left to right, and the first
+/// fault is the result.
 pub fn value(expr: &Expr, env: &Environment) -> Result<Value, Fault>
     requires ranged { IsTrue (is_ranged expr.now) }
     requires sound { IsSound env.now }

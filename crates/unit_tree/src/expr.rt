@@ -39,7 +39,7 @@ pub enum BinOp {
 /// An expression. Parentheses are not in the tree.
 #[derive(Debug, Drop)]
 pub enum Expr {
-    /// A number by the word of its digits without the point, and how many stand behind the point.
+    /// A number as the word of its digits without the point, and how many digits follow the point.
     Number {
         word: i64,
         decimals: u8,
@@ -71,7 +71,8 @@ pub enum Expr {
         yes: Boxed<Expr>,
         no: Boxed<Expr>,
     },
-    /// `absent`: no event occurs. It is the value of an event output, or a choice of an `if` that is.
+    /// `absent`: no event occurs. It is the whole expression of an event output, or a choice of an
+    /// `if` that may be `absent`.
     Absent,
     /// `present(u)`: whether an event occurs at the event input `u`.
     Present(Name),

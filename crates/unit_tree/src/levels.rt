@@ -1,4 +1,5 @@
-//! Levels of the grammar of expressions, by which a reader knows where an operand ends and a printer where parentheses stand.
+//! Levels of the grammar of expressions. By them a reader knows where an operand ends, and a printer where parentheses
+//! are needed.
 ghost use Rattle.std.specs.Prelude.{◌≡◌};
 ghost use Rattle.unit_tree.specs.Phrases.{strength, unary_level, binary_level, left_level, right_level, allows};
 ghost use Rattle.unit_tree.specs.Levels.{grammar_level};
@@ -35,7 +36,7 @@ fn strength(level: Level) -> u8
     }
 }
 
-/// Whether what is of `level` may stand where the grammar asks for `asked`.
+/// Whether a phrase of level `level` is allowed where the grammar requires level `asked`.
 pub fn allows(asked: Level, level: Level) -> bool
     ensures { result ≡ allows (grammar_level asked) (grammar_level level) }
 {
@@ -67,7 +68,7 @@ pub fn binary_level(op: BinOp) -> Level
     }
 }
 
-/// The level that a production asks of its left operand.
+/// The level that a production requires of its left operand.
 pub fn left_level(level: Level) -> Level
     ensures { grammar_level result ≡ left_level (grammar_level level) }
 {
@@ -80,7 +81,7 @@ pub fn left_level(level: Level) -> Level
     }
 }
 
-/// The level that a production asks of its right operand.
+/// The level that a production requires of its right operand.
 pub fn right_level(level: Level) -> Level
     ensures { grammar_level result ≡ right_level (grammar_level level) }
 {

@@ -1,21 +1,26 @@
 //! The trees of a system, and what they mean.
 //!
-//! A [`System`] is what a model text says: units (component models) with parameters, states, inputs,
-//! outputs and step lines, instances of them, and wires between their ports. All of it is plain data
-//! to contracts: two systems are equal exactly where their trees are.
+//! A [`System`] is the content of a model text: units (component models) with parameters, states, inputs, outputs and
+//! step lines, instances of them, and connections between their ports. All of it is plain data to contracts: two
+//! systems are equal exactly where their trees are.
 //!
-//! The definitions that every layer above speaks of stand in `specs/`. What a tree means: `Kinds` (which
-//! operands an operation takes), `Values` (what an expression is worth), `Effects` (what step lines do),
-//! `Costs` (the static cost of a call) and `Components` (initial state, get, max and step of a unit). What a run of
-//! it is: `Compositions` (what is run, by numbers), `Ports` (port assignment), `Negotiation` (proposal, reply, agreed
-//! step), `Successor` and `Trace` (the one trace of a system); `Routes` and `Given` say it of calls by numbers. How a
-//! system is written: `Lines` and `Tokens` (how a text is cut), `Phrases` (the grammar of
-//! expressions, whose levels are [`levels`] to code), `LineForms` (the forms of lines, each a [`LineForm`]), `Blocks` (where a form may stand),
-//! `Parts` and `Texts` (which text says which system, and where any other is refused), `Canonical` and
-//! `Printable` (the one printed text of a system). Which systems may run: `Names`, `Sites` and `WellFormed`
-//! (the lines that break each rule), and `Orders` (outputs without a cycle).
+//! The definitions that every layer above uses are in `specs/`.
 //!
-//! Their laws stand in `language_laws` and `run_laws`, and `worked_facts` keeps them honest on small cases.
+//! - What a tree means: `Kinds` (which operands an operation takes), `Values` (the value of an expression), `Effects`
+//!   (what step lines do), `Costs` (the static cost of a call) and `Components` (initial state, get, max and step of a
+//!   unit).
+//! - What a run of it is: `Compositions` (what is run, by numbers), `Ports` (port assignment), `Negotiation` (proposed
+//!   step, reply, agreed step), `Successor` and `Trace` (the one trace of a system). `Routes` and `Given` state the
+//!   same for calls by numbers.
+//! - How a system is written: `Lines` and `Tokens` (how a text is split), `Phrases` (the grammar of expressions, whose
+//!   levels are [`levels`] in code), `LineForms` (the forms of lines, each a [`LineForm`]), `Blocks` (where a form is
+//!   allowed), `Parts` and `Texts` (which system a text has, and where any other text is refused), `Canonical` and
+//!   `Printable` (the one canonical text of a system).
+//! - Which systems may run: `Names`, `Sites` and `WellFormed` (the lines that break each rule), and `Orders` (outputs
+//!   without a cycle).
+//!
+//! The laws of these definitions are in `language_laws` and `run_laws`. `worked_facts` proves that they give the
+//! results of small cases that were worked out by hand.
 #![tactic(auto)]
 
 mod checked;
@@ -49,5 +54,5 @@ pub use system::{Column, Instance, PortName, Setting, System, Wire};
 pub use token::{Keyword, Symbol, Token, begins_with_word_byte, is_letter, is_word_byte};
 pub use unit::{EventIn, EventOut, Input, Local, Output, Param, State, Unit, start_word};
 
-/// A name as its bytes: a word of at most 32 bytes that is not reserved.
+/// A name as its bytes: an identifier of at most 32 bytes that is not reserved.
 pub type Name = List<u8>;

@@ -6,15 +6,15 @@ use crate::{
 };
 use fixed_words::Literal;
 
-/// What a line of a model text says. A line with a block has no more than its head here: the lines of
-/// the block follow it, up to the block's own [`End`](LineForm::End).
+/// The content of a line of a model text. Of a line that opens a block it is only the line itself.
+/// The lines of the block follow it, up to the block's own [`End`](LineForm::End).
 #[derive(Debug, Drop)]
 pub enum LineForm {
     /// `cosim 1`, or `cosim 2`: the version of the language.
     Header(u8),
     /// `unit A`, which opens a block.
     Unit(Name),
-    /// `resolution E`, by how many decimal places a local tick lies below a second, from 0 to 9.
+    /// `resolution E`: a local tick is 10^-E seconds, with E from 0 to 9.
     Resolution(u8),
     /// `param p : T = L`
     Param(Param),
@@ -42,7 +42,7 @@ pub enum LineForm {
     If(Expr),
     /// `else`
     Else,
-    /// `repeat K`, which opens a block; from 1 to 1,000 times.
+    /// `repeat K`, which opens a block that is run K times, from 1 to 1,000.
     Repeat(u32),
     /// `accept e`
     Accept(Expr),
@@ -64,7 +64,7 @@ pub enum LineForm {
     Sample(PortName),
 }
 
-/// Whether `absent` or `present` stands in an expression.
+/// Whether `absent` or `present` occurs in an expression.
 pub fn speaks_of_events(expr: &Expr) -> bool
     ensures { result ≡ speaks_of_events expr.now }
 {

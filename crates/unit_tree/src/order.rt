@@ -17,7 +17,7 @@ pub struct StartWord {
 }
 
 /// An output by its place: its instance and its number there, the inputs that are connected to it, and the places of
-/// the outputs that it needs.
+/// the outputs that it depends on directly.
 #[derive(Debug, Drop)]
 pub struct Route {
     pub instance: u32,
@@ -26,17 +26,17 @@ pub struct Route {
     pub needs: List<u32>,
 }
 
-/// The outputs of a system by their places, and the inputs that are connected to none.
+/// The outputs of a system by their places, and the inputs that nothing is connected to.
 #[derive(Debug, Drop)]
 pub struct Routes {
     pub outputs: List<Route>,
     pub starts: List<StartWord>,
 }
 
-/// An order of a system's outputs by their places, which count all outputs by instance and then by declaration from 0,
-/// with the routes of all ports as numbers. Whoever goes along it looks no name up.
+/// An order of a system's outputs by their places, with the routes of all ports as numbers. Places count all outputs
+/// from 0, by instance and then by declaration. A caller that goes along it looks up no name.
 ///
-/// It holds each place once, behind all that its output needs.
+/// It has each place once, after all places that its output depends on.
 #[derive(Debug, Drop)]
 pub struct Order {
     places: List<u32>,
@@ -60,7 +60,7 @@ impl Order {
     ghost use Rattle.unit_tree.specs.Compositions.{run_of};
     ghost use Rattle.unit_tree.specs.Routes.{IsOrdered, IsOrderOf};
 
-    /// Of the places in their order and the routes of the system.
+    /// Returns the order with these places and the routes of the system.
     pub fn new(places: List<u32>, routes: Routes, checked: &Checked) -> Order
         requires { IsOrderOf (run_of checked.now) (record { places = places; routes = routes }) }
         ensures of { IsOrderOf (run_of checked.now) result }

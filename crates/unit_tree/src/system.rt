@@ -12,7 +12,7 @@ pub struct Setting {
     pub value: Literal,
 }
 
-/// A component: a unit by its name, with the parameters that are set anew.
+/// A component: a unit by its name, with the parameters that are set for this instance.
 #[derive(Debug, Drop)]
 pub struct Instance {
     pub name: Name,
@@ -34,30 +34,30 @@ pub struct Wire {
     pub to: PortName,
 }
 
-/// What a model text says.
+/// The content of a model text.
 #[derive(Debug, Drop)]
 pub struct System {
-    /// Of the language: 1, or 2, which has event ports.
+    /// The version of the language: 1, or 2, which has event ports.
     pub version: u8,
     pub units: List<Unit>,
     pub instances: List<Instance>,
     pub wires: List<Wire>,
-    /// In seconds; where the run ends.
+    /// The time at which the run ends, in seconds.
     pub stop: Option<Literal>,
-    /// In seconds; no step is longer. It is `stop` where none is given.
+    /// The longest step, in seconds. It is `stop` where none is given.
     pub longest: Option<Literal>,
-    /// How many steps of length zero may follow each other. Where none is given: 100 in version 1, and 1,000 in
+    /// How many steps of length zero may follow each other. Where none is given, it is 100 in version 1 and 1,000 in
     /// version 2.
     pub zero: Option<u32>,
-    /// How many rows the trace has at most. Where none is given: the least of 100,000 in version 1, or 10,000 in
-    /// version 2, and of 1,000,000 shared among the instances.
+    /// The most rows of the trace. Where none is given, it is 100,000 in version 1 and 10,000 in version 2, and at
+    /// most 1,000,000 divided by the number of instances.
     pub rows: Option<u32>,
-    /// The outputs that the trace shows; all of them where none is sampled.
+    /// The outputs that the trace shows; all outputs where none is sampled.
     pub samples: List<PortName>,
 }
 
 impl System {
-    /// The unit of an instance: the first one of its name. There are few units, so it goes through them.
+    /// The unit of an instance: the first unit of its name. There are few units, so it searches them in turn.
     pub fn unit_of(&self, instance: &Instance) -> Option<&Unit>
         ensures { option_map (λ unit. unit.now) result ≡ unit_of_instance self.now instance.now }
     {
@@ -75,9 +75,9 @@ impl System {
 /// An output as a column of the trace: its instance and its number there, its place among all outputs
 /// by instance and declaration, and its type. All count from 0.
 ///
-/// `output` and `place` count the outputs of what is run, in version 2 those of the plain form. An event output is a
-/// column too, though it is two outputs there: `output` and `place` are those of its word, and the output before it
-/// tells by 1 or 0 whether an event occurs.
+/// `output` and `place` count the outputs of what is run, in version 2 those of the plain form. An event output is
+/// one column, though it is two outputs there: `output` and `place` are those of its word. The output before it is 1
+/// where an event occurs, and else 0.
 #[derive(Clone, Copy, Debug, PartialEq, Eq)]
 pub struct Column {
     pub instance: u32,

@@ -167,14 +167,14 @@ pub fn is_letter(byte: u8) -> bool
     byte.is_ascii_alphabetic() || byte == b'_'
 }
 
-/// Whether a byte may stand in a word: a letter, a digit or `_`.
+/// Whether a byte may be in a word: a letter, a digit or `_`.
 pub fn is_word_byte(byte: u8) -> bool
     ensures { result ≡ is_word_byte byte }
 {
     byte.is_ascii_alphanumeric() || byte == b'_'
 }
 
-/// Whether the first of some bytes may stand in a word.
+/// Whether there is a first byte and it may be in a word.
 pub fn begins_with_word_byte(bytes: &[u8]) -> bool
     ensures { result ≡ begins_with is_word_byte bytes.now }
 {
@@ -190,8 +190,8 @@ pub enum Token {
     Keyword(Keyword),
     /// A word that is not reserved.
     Name(Name),
-    /// A number by its digits without the point, at most 2^63, and how many of them stand behind the
-    /// point, at most 9. Only behind the `-` of a literal may it be 2^63.
+    /// A number as its digits without the point, at most 2^63, and how many of them follow the
+    /// point, at most 9. It is 2^63 only after the `-` of a literal.
     Number { digits: u64, decimals: u8 },
     Symbol(Symbol),
 }

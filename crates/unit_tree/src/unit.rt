@@ -5,7 +5,7 @@ ghost use Rattle.unit_tree.specs.Components.{start_word};
 use crate::{Expr, Line, Name};
 use fixed_words::{List, Literal, Ty, literal_word};
 
-/// A constant of a unit, which each instance may set anew.
+/// A constant of a unit, which each instance may set to another value.
 #[derive(Debug, Drop)]
 pub struct Param {
     pub name: Name,
@@ -21,14 +21,14 @@ pub struct State {
     pub start: Literal,
 }
 
-/// A variable of one step, which begins at the word 0 in every step.
+/// A variable of one step, which has the word 0 at the beginning of every step.
 #[derive(Debug, Drop)]
 pub struct Local {
     pub name: Name,
     pub ty: Ty,
 }
 
-/// An input port, and the value that it has where nothing is connected to it.
+/// An input port, and the value that it has if nothing is connected to it.
 #[derive(Debug, Drop)]
 pub struct Input {
     pub name: Name,
@@ -36,7 +36,7 @@ pub struct Input {
     pub start: Literal,
 }
 
-/// An output port. Its value may depend on the current value of the inputs in `needs` alone.
+/// An output port. Its value may depend on the current values of no inputs but those in `needs`.
 #[derive(Debug, Drop)]
 pub struct Output {
     pub name: Name,
@@ -45,15 +45,16 @@ pub struct Output {
     pub value: Expr,
 }
 
-/// An event input: a port at which an event with a value occurs, or none does. It is absent where nothing is
-/// connected to it.
+/// An event input: a port at which an event with a value occurs or not. It is absent if nothing is connected
+/// to it.
 #[derive(Debug, Drop)]
 pub struct EventIn {
     pub name: Name,
     pub ty: Ty,
 }
 
-/// An event output: its value, or `absent`. It may depend on the current value of the inputs in `needs` alone.
+/// An event output: its value, or `absent`. It may depend on the current values of no inputs but those in
+/// `needs`.
 #[derive(Debug, Drop)]
 pub struct EventOut {
     pub name: Name,
@@ -68,7 +69,8 @@ pub struct EventOut {
 #[derive(Debug, Drop)]
 pub struct Unit {
     pub name: Name,
-    /// One local tick is ten to the power of minus this many seconds, from 0 to 9; 0 where none is given.
+    /// One local tick is 10 to the power of minus this number, in seconds, from 0 to 9. Without it, a local
+    /// tick is one second.
     pub resolution: Option<u8>,
     pub params: List<Param>,
     pub states: List<State>,
@@ -79,13 +81,13 @@ pub struct Unit {
     pub outputs: List<Output>,
     /// Only in version 2 of the language.
     pub events_out: List<EventOut>,
-    /// The longest step that the component will accept, in local ticks; none sets no limit.
+    /// The longest step that the component accepts, in local ticks. Without it, there is no limit.
     pub max: Option<Expr>,
-    /// What a step does; none keeps the state and accepts every step.
+    /// What a step does. Without it, a step keeps the state and accepts its whole length.
     pub step: Option<List<Line>>,
 }
 
-/// The word that a literal stands for at a type, with which a declaration begins; 0 where it stands for none.
+/// The start word of a declaration: the word of its literal as a value of the type; 0 where it has none.
 pub fn start_word(ty: Ty, literal: Literal) -> i64
     requires { AreDecimals ty }
     ensures { result ≡ start_word ty literal }

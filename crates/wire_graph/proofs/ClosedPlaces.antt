@@ -1,4 +1,4 @@
--- Closed places in order hold every place that stands in some order, and the first place that they leave out is that of the
+-- Closed places in order include every place that is in some order. The first place that they leave out is that of the
 -- first output without an order.
 use Rattle.std.proofs.Common.{◌≡◌, ℕ, zero, suc, ◌<◌, List, [], ◌∷◌, ◌++◌, length, take, drop, Some, inl, inr, refl, ap, subst, ◌⊎◌, arith}
 use Rattle.std.specs.Prelude.{slice_get, unwrap_or}

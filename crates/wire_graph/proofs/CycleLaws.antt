@@ -16,7 +16,7 @@ use Rattle.list_laws.proofs.Members.{has_behind}
 use Rattle.list_laws.proofs.Truths.{true_is_false}
 use Rattle.list_laws.proofs.Lists.{each_so, same_rest}
 
--- ---- Whether a port is among some
+-- ---- Whether a port is in a list
 
 abbrev stands : List PortName → PortName → Bool
 stands ports port = list_any (same_port port) ports
@@ -109,7 +109,7 @@ in_either (first ∷ front) last port (inl is) = inl (inl is)
 in_either (first ∷ front) last port (inr later) = elim (in_either front last port later) [ inl here ↦ inl (inr here) | inr is ↦ inr is ]
 
 module _ (system : System) where
-  -- An output all of whose needs stand in the list stands there itself.
+  -- An output whose needs are all in the list is in the list itself.
   abbrev IsClosed : List PortName → Type 0
   IsClosed order = (port : PortName) → IsIn (outputs_of system) port → AllByRecursion (IsIn order) (needed_by system port) → IsIn order port
 
@@ -233,7 +233,7 @@ module _ (system : System) where
       (has_in (first.before ++ (port ∷ first.later)) port (has_behind first.before (port ∷ first.later) port (inl refl))) in
       first.has_no_order order orderly (each_in (IsIn order) (outputs_of system) port all output)
 
-  -- Two cuts of the outputs, each at the first without an order.
+  -- Two ways to split the outputs, each at the first without an order.
   one_cut : (one_before other_before one_later other_later : List PortName) (one other : PortName)
       → one_before ++ (one ∷ one_later) ≡ other_before ++ (other ∷ other_later) → HasNoOrder system one → HasNoOrder system other
       → AllByRecursion (λ port. HasNoOrder system port → ⊥) one_before → AllByRecursion (λ port. HasNoOrder system port → ⊥) other_before → one ≡ other

@@ -27,7 +27,7 @@ record Names (components : List Named) (numbered : Numbered) (port : PortName) :
   is_output : slice_get component.1.outputs numbered.output ≡ Some declared
   is : port_named component.0 declared.name ≡ port
 
--- What stands behind others.
+-- The element after others.
 get_behind : {A : Type 0} (front : List A) (x : A) (behind : List A) (k : ℕ) → k ≡ length front → slice_get (front ++ (x ∷ behind)) k ≡ Some x
 get_behind front x behind k is = ap (slice_get (front ++ (x ∷ behind))) is ∙ at_seam front x behind
 

@@ -1,4 +1,4 @@
--- Numbering keys: the first of equal ones counts.
+-- Numbering keys: the first of equal keys counts.
 use Rattle.std.proofs.Common.{◌≡◌, ℕ, zero, suc, ◌+◌, ◌<◌, ◌≤◌, Bool, true, false, cond, List, [], ◌∷◌, length, take, get_or, Option, Some, None, refl, ap, sym}
 use Rattle.std.proofs.Common.{subst, ◌∙◌, arith, Bor}
 use Rattle.std.specs.Prelude.{is_some}

@@ -1,4 +1,4 @@
--- Sorted places are an order of the system, or tell its first output without one.
+-- Sorted places are an order of the system, or give its first output without one.
 use Rattle.std.proofs.Common.{◌≡◌, ℕ, zero, suc, ◌+◌, ◌<◌, ◌==◌, Bool, true, false, cond, List, [], ◌∷◌, length, get_or, Some, None, inl, inr, ◌⊎◌, refl, ap}
 use Rattle.std.proofs.Common.{sym, subst, ◌∙◌, arith}
 use Rattle.std.specs.Prelude.{not, slice_get}

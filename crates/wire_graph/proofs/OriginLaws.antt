@@ -75,7 +75,7 @@ first_source port (wire ∷ wires) =
         ∙ ap (option_map from_of) (step_get wire wires (position_from (same_port port) 0 (targets_of wires)))
         ∙ later
 
--- The source of an input is told by the first output that is connected to it.
+-- The source of an input is given by the first output that is connected to it.
 pub no_source : (system : System) (input : Input) (sources : List PortName) → None ≡ slice_get sources 0
     → source_from system input sources ≡ source_from system input []
 no_source system input [] is = refl
@@ -86,7 +86,7 @@ pub one_source : (system : System) (input : Input) (sources : List PortName) (so
 one_source system input [] source is = absurd (cc)
 one_source system input (first ∷ sources) source is = let same : source ≡ first = cc in rw same refl
 
--- The same as the table is asked.
+-- The same in the form of the table's query.
 behind_copied : (wire : Option (Bor Wire)) → option_map source_behind wire ≡ option_map from_of (option_copied wire)
 behind_copied None = refl
 behind_copied (Some wire) = refl

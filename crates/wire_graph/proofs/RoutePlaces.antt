@@ -1,4 +1,5 @@
--- Places in order along the routes of a composition are in order by what its outputs need.
+-- Places that are in order by the routes of a composition are in order by what its outputs depend
+-- on.
 use Rattle.std.proofs.Common.{◌≡◌, ℕ, ◌+◌, List, [], ◌∷◌, ◌++◌, map, length, refl, ap, sym, subst, ◌∙◌, arith}
 use Rattle.std.proofs.lemmas.List.{length-map, map-append}
 use Rattle.std.proofs.lemmas.Option.{slice_get-map}

@@ -1,4 +1,4 @@
--- Routes made of components are those of their composition.
+-- Routes that are made from components are those of their composition.
 use Rattle.std.proofs.Common.{◌≡◌, ℕ, zero, suc, ◌+◌, ◌<◌, ◌≤◌, true, false, cond, List, [], ◌∷◌, ◌++◌, map, length, get_or, set, drop, Some, None, refl, ap}
 use Rattle.std.proofs.Common.{sym, subst, ◌∙◌, arith, append-nil, append_assoc}
 use Rattle.std.specs.Prelude.{◌==◌, ℤ}
@@ -18,7 +18,7 @@ use Rattle.wire_graph.specs.Routing.{bare, numbered_in, wired_in, wired_among, f
 
 -- ---- One input more
 
--- An output that is read, and written with the inputs that it feeds then.
+-- An output before and after an input is added that is connected to it.
 pub fed_at : (routes : List Route) (place : ℕ) (at : InputAt) (route : Route) (feeds : List InputAt) → place < length routes
     → route ≡ get_or routes place route → feeds ≡ (get_or routes place route).feeds ++ (at ∷ [])
     → set routes place (record (get_or routes place route) { feeds = feeds }) ≡ fed routes place at
@@ -32,7 +32,7 @@ fed_past [] place at past = refl
 fed_past (first ∷ routes) zero at past = absurd (omega (arith, past))
 fed_past (first ∷ routes) (suc place) at past = ap (λ rest. first ∷ rest) (fed_past routes place at (omega (arith, past)))
 
--- ---- All inputs, one behind the other
+-- ---- All inputs in a row
 
 pub routed_on : (routes : List Route) (front behind : List (InputAt × InputSource))
     → routed_by routes (front ++ behind) ≡ routed_by (routed_by routes front) behind
@@ -40,7 +40,7 @@ routed_on routes [] behind = refl
 routed_on routes ((at, Start word) ∷ front) behind = routed_on routes front behind
 routed_on routes ((at, AtPlace place) ∷ front) behind = routed_on (fed routes place at) front behind
 
--- An output with the inputs among some that it feeds.
+-- An output with those of some inputs that are connected to it.
 abbrev feeding : List (InputAt × InputSource) → ℕ × Numbered → Route
 feeding inputs (place, numbered) =
     record { instance = numbered.instance; output = numbered.output; feeds = filter_map (fed_from place) inputs; needs = numbered.needs }
@@ -55,7 +55,7 @@ bare_feeding from (output ∷ outputs) = ap (λ rest. bare output ∷ rest) (bar
 abbrev with_feeds : Numbered → List InputAt → Route
 with_feeds numbered feeds = record { instance = numbered.instance; output = numbered.output; feeds = feeds; needs = numbered.needs }
 
--- A start word feeds nothing.
+-- A start word adds no input to an output.
 feeding_start : (inputs : List (InputAt × InputSource)) (at : InputAt) (word : ℤ) (from : ℕ) (outputs : List Numbered)
     → all_feeding inputs from outputs ≡ all_feeding (inputs ++ ((at, Start word) ∷ [])) from outputs
 feeding_start inputs at word from [] = refl
@@ -64,7 +64,7 @@ feeding_start inputs at word from (output ∷ outputs) =
     (sym (append-nil (filter_map (fed_from from) inputs)) ∙ sym (filter_map-append (fed_from from) inputs ((at, Start word) ∷ [])))
     ∙ ap (λ rest. with_feeds output (filter_map (fed_from from) (inputs ++ ((at, Start word) ∷ []))) ∷ rest) (feeding_start inputs at word (from + 1) outputs)
 
--- What the output at another place feeds is as before.
+-- The inputs of the output at another place are unchanged.
 feeds_other : (inputs : List (InputAt × InputSource)) (at : InputAt) (place from : ℕ) → (place == from) ≡ false
     → filter_map (fed_from from) (inputs ++ ((at, AtPlace place) ∷ [])) ≡ filter_map (fed_from from) inputs
 feeds_other inputs at place from other =
@@ -78,7 +78,7 @@ feeds_here inputs at place from same =
     filter_map-append (fed_from from) inputs ((at, AtPlace place) ∷ [])
     ∙ ap (λ told. filter_map (fed_from from) inputs ++ cons_option (cond told (Some at) None) []) same
 
--- Outputs at later places are as before.
+-- Outputs at later places are unchanged.
 feeding_later : (inputs : List (InputAt × InputSource)) (at : InputAt) (place from : ℕ) (outputs : List Numbered) → place < from
     → all_feeding inputs from outputs ≡ all_feeding (inputs ++ ((at, AtPlace place) ∷ [])) from outputs
 feeding_later inputs at place from [] below = refl
@@ -116,7 +116,7 @@ routed_feeding done ((at, AtPlace place) ∷ inputs) outputs =
 
 -- ---- The routes of a composition
 
--- A component with its inputs beside their sources, where each has one.
+-- A component with its inputs and their sources, where each has one.
 abbrev pub IsWiredAs : Member → Unit × List (Input × InputSource) → Type 0
 IsWiredAs member wired =
     (wired.0 ≡ member.component.unit) × (wired.1 ≡ zip member.component.unit.inputs member.sources)
@@ -171,7 +171,7 @@ routes_are run wired all =
     ∙ ap (λ all_routes. record { outputs = all_routes; starts = filter_map starts_at (inputs_of run) })
     (ap (λ routes. routed_by routes (inputs_of run)) (bare_feeding 0 outputs) ∙ routed_feeding [] (inputs_of run) outputs)
 
--- ---- Going along components
+-- ---- From component to component
 
 module _ {A : Type 0} (of : A → Unit × List (Input × InputSource)) where
   abbrev pub rest_from : ℕ → List A → List (InputAt × InputSource)

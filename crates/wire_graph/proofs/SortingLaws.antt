@@ -1,4 +1,4 @@
--- Putting places in order keeps what is to hold of them.
+-- Sorting places keeps its invariant.
 use Rattle.std.proofs.Common.{◌≡◌, ℕ, ◌+◌, ◌<◌, ◌≤◌, Bool, true, false, List, [], ◌∷◌, ◌++◌, length, get_or, set, Some, inl, inr, refl, ap, sym, subst, ◌∙◌}
 use Rattle.std.proofs.Common.{◌⊎◌, arith, append-nil, append_assoc, length-append}
 use Rattle.std.specs.Prelude.{slice_get, unwrap_or, replicate}
@@ -127,7 +127,7 @@ none_yet routes = record {
         true_is_false (get_or (replicate (length routes.outputs) false) place false) told
         (get_or_past (replicate (length routes.outputs) false) place false (omega (arith, beyond, length-replicate (length routes.outputs) false)))
 
--- ---- What was tried before is tried behind more places
+-- ---- What was tried before needs no new try after more places
 
 pub tried_further : (routes : Routes) (old new newer : List ℕ) (place : ℕ) → IsTried routes old new place → Grows new newer → IsTried routes old newer place
 tried_further routes old new newer place tried grows = λ within needs. grows.holds place (tried within needs)
@@ -136,11 +136,11 @@ pub tried_from : (routes : Routes) (old new newer : List ℕ) (place : ℕ) → 
 tried_from routes old new newer place tried grows =
     λ within needs. tried within (each_so (IsAmong old) (IsAmong new) grows.holds (needs_on routes place) needs)
 
--- What was tried without growth can't grow.
+-- Where a try added nothing, another one adds nothing.
 pub closed : (routes : Routes) (old new : List ℕ) → Grows old new → length new ≡ length old → ((place : ℕ) → IsTried routes old new place) → IsClosed routes new
 closed routes old new grows same tried = λ place. subst (λ from. IsTried routes from new place) (sym (grows.same same)) (tried place)
 
--- Whether all that an output needs is placed, as it is tested.
+-- Whether all that an output needs is placed, as the code tests it.
 pub ready_is : (routes : Routes) (place : ℕ) (route : Route) (placed told : List Bool) (needs : List ℕ) (ready : Bool)
     → Some route ≡ slice_get routes.outputs place → told ≡ placed → needs ≡ route.needs → ready ≡ list_all (λ need. get_or told need false) needs
     → list_all (λ need. get_or placed need false) (needs_on routes place) ≡ ready

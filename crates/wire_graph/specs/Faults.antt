@@ -1,4 +1,4 @@
--- The output that has no order, by its numbers.
+-- The output that has no order, by numbers.
 use Rattle.std.specs.Prelude.{◌≡◌, ℕ, slice_get, Some, ⊤}
 use Rattle.unit_tree.specs.Orders.{IsFirstWithoutOrder}
 use Rattle.unit_tree.specs.Plain.{plain_form}
@@ -11,8 +11,8 @@ use Rattle.wire_graph.specs.Wiring.{Named, port_named, components_in}
 use Rattle.wire_graph.specs.declared.fault.OrderFault.{OrderFault}
 use Rattle.wire_graph.specs.declared.fault.OrderFault.TheVariants.{Loop, NoMemory}
 
--- The output of a system without event ports that two numbers name: that of an instance, among those whose unit is
--- declared, as in a well-formed system all are, and that of an output of its unit. Both count from 0.
+-- The output of a system without event ports with these two numbers, which count from 0: that of its instance, and
+-- its own in its unit. Only instances whose unit is declared count, which in a well-formed system all are.
 pub record IsNumbered (system : System) (instance output : ℕ) (port : PortName) : Type 0 where
   pub component : Named
   pub declared : Output
@@ -24,13 +24,13 @@ pub record IsNumbered (system : System) (instance output : ℕ) (port : PortName
 abbrev pub NamesOutput : System → ℕ → ℕ → Type 0
 NamesOutput system instance output = (port : PortName) × IsNumbered system instance output port
 
--- The numbers name the first output of the plain form that has no order. Want of memory is free.
+-- The numbers name the first output of the plain form that has no order. `NoMemory` is always allowed.
 abbrev pub IsRightFault : System → OrderFault → Type 0
 IsRightFault system (Loop instance output) =
     (port : PortName) × IsNumbered (plain_form system) instance output port × IsFirstWithoutOrder (plain_form system) port
 IsRightFault system NoMemory = ⊤
 
--- The fault tells the numbers of the output at a place.
+-- The fault has the numbers of the output at a place.
 abbrev pub IsAtPlace : Routes → ℕ → OrderFault → Type 0
 IsAtPlace routes place (Loop instance output) =
     (route : Route) × (slice_get routes.outputs place ≡ Some route) × (route.instance ≡ instance) × (route.output ≡ output)

@@ -1,4 +1,4 @@
--- Where the words of inputs come from, found by tables of names.
+-- The sources of inputs, found by tables of names.
 use Rattle.std.specs.Prelude.{◌≡◌, ℕ, List, map, length}
 use Rattle.std.specs.Borrow.{Bor}
 use Rattle.std.specs.List.{AllByRecursion, position_from}
@@ -20,18 +20,18 @@ use Rattle.wire_graph.specs.declared.origins.Origin.TheVariants.{Start, AtPlace}
 use Rattle.wire_graph.specs.declared.origins.OriginTables.{OriginTables}
 use Rattle.wire_graph.specs.declared.origins.WiredInput.{WiredInput}
 
--- A table has for each port its first place among some.
+-- A table has for each port its first place in a list.
 abbrev pub FindsPortPlaces : {S : Type 0} → List PortName → IndexMap (Bor (List ℕ) × Bor (List ℕ)) ℕ S → Type 0
 FindsPortPlaces ports table = (key : Bor (List ℕ) × Bor (List ℕ))
     → get_by (λ other. same_port (port_with key) (port_with other)) table ≡ position_from (same_port (port_with key)) 0 ports
 
--- The tables of a system: the places of its outputs, and the connections by the inputs that they lead to.
+-- The tables of a system: the places of its outputs, and the connections by the inputs at which they end.
 pub record AreTables (system : System) (tables : OriginTables) : Type 0 where
   pub places : FindsPortPlaces (outputs_of system) tables.places
   pub count : tables.count ≡ length (outputs_of system)
   pub targets : FindsPortPlaces (targets_of system.wires) tables.targets
 
--- The types of inputs have decimals that the language allows.
+-- The types of inputs have at most nine decimals.
 abbrev pub HaveDecimals : List Input → Type 0
 HaveDecimals inputs = AllByRecursion (λ input. AreDecimals input.ty) inputs
 
@@ -39,7 +39,7 @@ HaveDecimals inputs = AllByRecursion (λ input. AreDecimals input.ty) inputs
 abbrev pub source_behind : Bor Wire → PortName
 source_behind wire = wire.now.from
 
--- The source that an origin tells.
+-- The source of an input, from its origin.
 abbrev pub origin_of : Origin → InputSource
 origin_of (Start word) = run.Start word
 origin_of (AtPlace place) = run.AtPlace place
@@ -48,14 +48,14 @@ origin_of (AtPlace place) = run.AtPlace place
 abbrev pub wired_input : WiredInput → Input × InputSource
 wired_input wired = (wired.input.now, origin_of wired.origin)
 
--- The same of an instance by its name.
+-- The same for an instance by its name.
 abbrev pub input_of : System → List ℕ → Input → Input × InputSource
 input_of system name input = (input, source_from system input (sources_of system (port_named name input.name)))
 
--- A component with the sources of its inputs, by what the routes rest on.
+-- A component with the sources of its inputs, from which its routes are made.
 abbrev pub member_behind : Member → Unit × List (Input × InputSource)
 member_behind member = (member.unit.now, map wired_input member.inputs.items)
 
--- The same of a component of the system.
+-- The same for a component of the system.
 abbrev pub member_of : System → Named → Unit × List (Input × InputSource)
 member_of system component = (component.1, map (input_of system component.0) component.1.inputs)

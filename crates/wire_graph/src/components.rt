@@ -58,7 +58,7 @@ pub(crate) fn output_keys<'a>(
     Ok(ports)
 }
 
-/// The input that each connection leads to.
+/// The input at which each connection ends.
 pub(crate) fn target_keys<'a>(
     alloc: Global,
     wires: &'a [Wire],

@@ -8,7 +8,7 @@ use indexmap::IndexMap;
 use std::alloc::Global;
 use std::hash::Hash;
 
-/// Notes the place of a key, unless one is noted.
+/// Adds a key with its place, if it is not there already.
 fn note<K: Eq + Hash + Copy + Drop>(
     table: &mut IndexMap<K, usize>,
     key: K,
@@ -23,7 +23,7 @@ fn note<K: Eq + Hash + Copy + Drop>(
     Ok(())
 }
 
-/// For each key the place of the first that is equal to it.
+/// For each key the place of the first key that is equal to it.
 pub(crate) fn numbered<K: Eq + Hash + Copy + Drop>(
     alloc: Global,
     keys: &[K],

@@ -25,15 +25,14 @@ fn loop_at(routes: &Routes, place: usize) -> OrderFault
     }
 }
 
-/// An order of the outputs of a checked system, with the routes of all its ports as numbers, or the first output that
-/// has none.
+/// Returns an order of the outputs of a checked system, with the routes of all its ports as numbers.
 ///
-/// [`OrderFault::Loop`] where some output lies on a cycle of needs, or needs one that does: it names the first of
-/// them. [`OrderFault::NoMemory`] is a free answer.
+/// [`OrderFault::Loop`] where some output is on a cycle of needs, or depends on one that is: it names the first of
+/// these. [`OrderFault::NoMemory`] may be returned in any case.
 ///
-/// Each port is looked up in a table, and connections are gone through once, so the work is meant to grow with the
-/// connections, and with the outputs times the inputs and needs of one component, of which there are few. No clause speaks of
-/// it.
+/// Each port is looked up in a table, and each connection is visited once. So the work should grow linearly with the
+/// connections, and with the outputs times the inputs and needs of one component, of which there are few. No clause
+/// states this.
 pub fn order(alloc: Global, checked: &Checked) -> Result<Order, OrderFault>
     ensures ordered { IfOk result (IsOrderOf (run_of checked.now)) }
     ensures fault { IfErr result (IsRightFault checked.now) }
@@ -46,7 +45,8 @@ pub fn order(alloc: Global, checked: &Checked) -> Result<Order, OrderFault>
     }
 }
 
-/// The names of the output that [`OrderFault::Loop`] tells by numbers: that of its instance, and its own in the plain form.
+/// The names of the output that [`OrderFault::Loop`] gives by numbers: that of its instance, and its own in the plain
+/// form.
 pub fn output_names(
     alloc: Global,
     checked: &Checked,

@@ -17,7 +17,7 @@ use indexmap::IndexMap;
 use std::alloc::{AllocError, Global};
 use unit_tree::{Input, System, Unit, Wire};
 
-/// Where the word of an input comes from: its start word, or the output at a place.
+/// The source of the word of an input: its start word, or the output at a place.
 #[derive(Clone, Copy)]
 pub(crate) enum Origin {
     Start(i64),
@@ -38,7 +38,7 @@ pub(crate) struct Member<'a> {
     pub(crate) inputs: Vec<WiredInput<'a>>,
 }
 
-/// The places of outputs by their names, how many there are, and which connection leads to an input.
+/// The places of outputs by their names, how many there are, and which connection ends at an input.
 #[derive(Drop)]
 pub(crate) struct OriginTables<'a> {
     pub(crate) places: IndexMap<PortKey<'a>, usize>,
@@ -46,7 +46,8 @@ pub(crate) struct OriginTables<'a> {
     pub(crate) targets: IndexMap<PortKey<'a>, usize>,
 }
 
-/// A number of ports or instances, of which there are less than 2^32 where memory allows it.
+/// A number of ports or instances as 32 bits, which hold it as long as there is memory. Else
+/// `NoMemory`.
 pub(crate) fn number(count: usize) -> Result<u32, NoMemory>
     ensures { IfOk result (λ number. number ≡ count) }
 {
@@ -97,7 +98,7 @@ fn place<'a>(system: &System, tables: &OriginTables<'a>, port: PortKey<'a>) -> u
     }
 }
 
-/// The first connection that leads to an input.
+/// The first connection that ends at an input.
 fn wire_to<'a>(system: &'a System, tables: &OriginTables<'a>, port: PortKey<'a>) -> Option<&'a Wire>
     requires { AreTables system.now tables.now }
     ensures { option_map source_behind result ≡ slice_get (sources_of system.now (port_with port.entry)) 0 }
@@ -108,7 +109,7 @@ fn wire_to<'a>(system: &'a System, tables: &OriginTables<'a>, port: PortKey<'a>)
     }
 }
 
-/// Where the word of an input of a component comes from.
+/// The source of the word of a component's input.
 fn input_origin<'a>(
     system: &'a System,
     tables: &OriginTables<'a>,

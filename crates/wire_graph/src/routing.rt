@@ -22,7 +22,7 @@ fn is_needed(needs: &[Name], name: &[u8]) -> bool
     needs.iter().any(|need| name == need.as_slice())
 }
 
-/// The place that an output needs for an input.
+/// The place that an output depends on by an input, if the input is needed and connected.
 fn needed_place(output: &Output, wired: WiredInput<'_>) -> Option<u32>
     ensures { result ≡ place_needed output.now (wired_input wired.entry) }
 {
@@ -35,7 +35,7 @@ fn needed_place(output: &Output, wired: WiredInput<'_>) -> Option<u32>
     }
 }
 
-/// The places that an output needs, by the inputs of its component.
+/// The places that an output depends on directly, by the inputs of its component.
 fn needed_places(alloc: Global, member: &Member<'_>, output: &Output) -> Result<List<u32>, NoMemory>
     ensures { IfOk result (λ needs. needs ≡ needs_in (member_behind member.now).1 output.now) }
 {
@@ -48,7 +48,7 @@ fn needed_places(alloc: Global, member: &Member<'_>, output: &Output) -> Result<
     Ok(needs)
 }
 
-/// Adds the outputs of one component, of which it isn't known yet what they feed.
+/// Adds the outputs of one component, without the inputs that are connected to them.
 fn add_routes(
     alloc: Global,
     instance: u32,
@@ -69,7 +69,7 @@ fn add_routes(
     Ok(())
 }
 
-/// All outputs, of which it isn't known yet what they feed.
+/// All outputs, without the inputs that are connected to them.
 fn bare_routes(alloc: Global, members: &[Member<'_>]) -> Result<Vec<Route>, NoMemory>
     ensures { IfOk result (λ routes. routes.items ≡ map bare (flat_map numbered_in (enumerate_from 0 (map member_behind members.now)))) }
 {
@@ -80,7 +80,7 @@ fn bare_routes(alloc: Global, members: &[Member<'_>]) -> Result<Vec<Route>, NoMe
     Ok(routes)
 }
 
-/// Notes an input at the output that feeds it.
+/// Adds an input to the output that is connected to it.
 fn feed(routes: &mut [Route], place: u32, at: InputAt) -> Result<(), NoMemory>
     ensures { OnOk result (routes.new ≡ fed routes.old place at) }
 {
@@ -92,7 +92,7 @@ fn feed(routes: &mut [Route], place: u32, at: InputAt) -> Result<(), NoMemory>
     Ok(())
 }
 
-/// Follows the inputs of one component: each is noted at its output, or with its start word.
+/// Visits the inputs of one component: each is added to its output, or with its start word.
 fn follow_inputs(
     instance: u32,
     inputs: &[WiredInput<'_>],
@@ -115,7 +115,7 @@ fn follow_inputs(
     Ok(())
 }
 
-/// Follows the inputs of all components.
+/// Visits the inputs of all components.
 fn follow_all(
     members: &[Member<'_>],
     routes: &mut [Route],
@@ -163,7 +163,7 @@ fn tables<'a>(
     })
 }
 
-/// The routes of what is run of a system without event ports: its ports by numbers.
+/// The routes of a system without event ports: its ports by numbers.
 pub(crate) fn system_routes(alloc: Global, system: &System) -> Result<Routes, NoMemory>
     requires events { HasNoEvents system.now }
     requires decimals { AllByRecursion (λ unit. HaveDecimals unit.inputs) system.now.units }

@@ -13,7 +13,7 @@ pub(crate) struct Sorting {
     pub(crate) placed: Vec<bool>,
 }
 
-/// Whether an output is placed; none beyond the table is.
+/// Whether an output is placed. An output beyond the table is not.
 fn is_placed(placed: &[bool], place: u32) -> bool
     ensures { result ≡ slice_index_or placed.now place false }
 {
@@ -23,7 +23,7 @@ fn is_placed(placed: &[bool], place: u32) -> bool
     }
 }
 
-/// Whether all that an output needs is placed.
+/// Whether all that an output depends on is placed.
 fn is_ready(placed: &[bool], needs: &[u32]) -> bool
     ensures { result ≡ list_all (λ need. slice_index_or placed.now need false) needs.now }
 {
@@ -31,7 +31,7 @@ fn is_ready(placed: &[bool], needs: &[u32]) -> bool
 }
 
 impl Sorting {
-    /// With no place yet.
+    /// Returns a sorting without any place yet.
     fn new(alloc: Global, routes: &Routes) -> Result<Sorting, NoMemory>
         ensures { IfOk result (λ sorting. IsSorting routes.now sorting.places.items sorting.placed.items) }
     {
@@ -42,7 +42,7 @@ impl Sorting {
         })
     }
 
-    /// Adds an output, where it is not placed yet and all that it needs is.
+    /// Adds an output, if it is not placed yet and all that it depends on is.
     fn try_place(&mut self, routes: &Routes, place: u32) -> Result<(), NoMemory>
         requires { IsSorting routes.now self.old.places.items self.old.placed.items }
         ensures kept { OnOk result (IsSorting routes.now self.new.places.items self.new.placed.items) }
@@ -77,7 +77,7 @@ impl Sorting {
         Ok(())
     }
 
-    /// Tries each of some outputs once.
+    /// Tries each of these outputs once.
     fn try_these(&mut self, routes: &Routes, places: &[u32]) -> Result<(), NoMemory>
         requires { IsSorting routes.now self.old.places.items self.old.placed.items }
         ensures kept { OnOk result (IsSorting routes.now self.new.places.items self.new.placed.items) }
@@ -89,7 +89,7 @@ impl Sorting {
         Ok(())
     }
 
-    /// Goes along the places from one on, and tries the outputs that need each.
+    /// Goes along the places from one on, and tries the outputs that depend on each.
     fn follow(
         &mut self,
         routes: &Routes,
@@ -111,8 +111,8 @@ impl Sorting {
         Ok(())
     }
 
-    /// Adds all that can be added. A round tries each output, and then those that need what was added: the first round
-    /// adds all there is, and one that adds nothing shows it.
+    /// Adds all that can be added. A round tries each output, and then those that depend on what was added. The first
+    /// round adds all there is, and a round that adds nothing proves this.
     fn fill(&mut self, routes: &Routes, needed_by: &[Vec<u32>], count: u32) -> Result<(), NoMemory>
         requires kept { IsSorting routes.now self.old.places.items self.old.placed.items }
         requires count { count ≡ length routes.now.outputs }
@@ -130,7 +130,7 @@ impl Sorting {
     }
 }
 
-/// For each output the places of those that need it.
+/// For each output the places of those that depend on it directly.
 fn needed_by(alloc: Global, routes: &Routes, count: u32) -> Result<Vec<Vec<u32>>, NoMemory>
     requires { count ≡ length routes.now.outputs }
 {
@@ -146,7 +146,7 @@ fn needed_by(alloc: Global, routes: &Routes, count: u32) -> Result<Vec<Vec<u32>>
     Ok(needed_by)
 }
 
-/// Notes an output at each that it needs.
+/// Adds an output to the list of each output that it depends on.
 fn note_needs(needed_by: &mut [Vec<u32>], needs: &[u32], place: u32) -> Result<(), NoMemory> {
     for need in needs {
         if let Some(others) = needed_by.get_mut(*need as usize) {
@@ -156,9 +156,9 @@ fn note_needs(needed_by: &mut [Vec<u32>], needs: &[u32], place: u32) -> Result<(
     Ok(())
 }
 
-/// The places of outputs, each behind all that its output needs: as many as there can be.
+/// Returns the places of outputs, each after all that its output depends on: as many as there can be.
 ///
-/// Nothing rests on the lists of who needs whom: they only say which outputs are worth a try, so that each is tried
+/// The proof does not use the lists of dependent outputs. They only show which outputs to try, so that each is tried
 /// once for each of its needs.
 pub(crate) fn sort(alloc: Global, routes: &Routes) -> Result<Sorting, NoMemory>
     ensures kept { IfOk result (λ sorting. IsSorting routes.now sorting.places.items sorting.placed.items) }

@@ -59,7 +59,7 @@ differ (x ∷ xs) [] l lt = λ e. cc
 differ (x ∷ xs) (y ∷ ys) l lt =
     differ_more (eqb (of_z w64 x) (of_z w64 y)) x y xs ys _ (other_word x y) (differ xs ys (omega arith)) lt
 
--- ---- what the mask of the lanes that differ says
+-- ---- what the mask of the lanes that differ means
 
 length-ne_lanes : (xs ys : List ℤ) → length xs ≡ length ys → length (ne_lanes xs ys) ≡ length xs
 length-ne_lanes [] ys l = refl
@@ -81,7 +81,7 @@ abbrev pub mask_of : List ℤ → List ℤ → ℕ
 mask_of xs ys = mask_l (map (top 63) (ne_lanes xs ys)) % 2 ^ 64
 
 module _ (xs ys : List ℤ) (same_length : length xs ≡ length ys) (few : length xs ≤ 64) where
-  -- the mask of so few lanes loses no bit
+  -- the mask of this many lanes loses no bit
   mask_is : mask_of xs ys ≡ mask_l (map (top 63) (ne_lanes xs ys))
   mask_is = mask_l-mod (map (top 63) (ne_lanes xs ys)) 64 (omega (arith, length-map (ne_lanes xs ys) (top 63), length-ne_lanes xs ys same_length))
 
@@ -106,7 +106,7 @@ module _ (xs ys : List ℤ) (same_length : length xs ≡ length ys) (few : lengt
     pub lowest_is_first : Each1 (FitsSigned w64) xs → Each1 (FitsSigned w64) ys → IsFirstMismatch xs ys (count_trailing_zeros 64 (mask_of xs ys))
     lowest_is_first f g = rw lowest record { agree = agree xs ys f g; differ = differ xs ys same_length stops }
 
--- ---- a first mismatch of what lies behind a place up to which two lists agree
+-- ---- a first mismatch after a place up to which two lists agree
 
 -- a first mismatch of the rests is n places further on in the whole lists
 pub further : (n : ℕ) (a b : List ℤ) (k : ℕ) → n ≤ length a → n ≤ length b → take n a ≡ take n b → IsFirstMismatch (drop n a) (drop n b) k

@@ -1,12 +1,12 @@
-//! Two kernels over lists of words, on std's vectors of lanes: whole vectors first, and then the
-//! words that are left.
+//! Two kernels over lists of words, on std's vectors of lanes. They go over whole vectors first,
+//! and then over the words that are left.
 //!
 //! - [`first_mismatch`]: the first place at which two lists differ.
-//! - [`extrapolate`]: the next words of lines that go on as they went, each within its bounds.
+//! - [`extrapolate`]: the next word of each line by linear extrapolation, within its bounds.
 //!
-//! The layer above uses these two calls and what they mean for lists of integers, for every length:
-//! `specs/Mismatch.antt` and `specs/Guess.antt` have the definitions, which know of no lanes.
-//! No call allocates, and none refuses.
+//! The layer above uses these two calls and their meaning for lists of integers of every length.
+//! `specs/Mismatch.antt` and `specs/Guess.antt` have the definitions, which don't mention lanes. No
+//! call takes memory, and none fails.
 #![tactic(auto)]
 
 ghost use Rattle.std.specs.Prelude.{◌≡◌, ◌<◌, ◌≤◌, ◌≤ℤ◌, ◌↔◌, length, take, IsNone, IfNone, IfSome, FitsSigned};
@@ -42,7 +42,7 @@ pub fn first_mismatch(a: &[i64], b: &[i64]) -> Option<usize>
 
 /// Writes the next word of each line into `out`: the word after `last`, which came after `before`,
 /// is guessed to be `2 * last - before`, wrapped to 64 bits and then brought into the interval from
-/// `low` to `high`. The five lists have a word for each line.
+/// `low` to `high`. The five lists have one word for each line.
 pub fn extrapolate(last: &[i64], before: &[i64], low: &[i64], high: &[i64], out: &mut [i64])
     requires before_length { length before.now ≡ length last.now }
     requires low_length { length low.now ≡ length last.now }
@@ -144,8 +144,9 @@ fn guess_word(last: i64, before: i64, low: i64, high: i64) -> i64
         .clamp(low, high)
 }
 
-// The first vector of a list. A word that is read by its index is known to fit 64 bits, which of a
-// vector that is loaded whole nothing tells; the compiler makes one load of the eight.
+// The first vector of a list. The proof knows that a word which is read by its index fits 64 bits,
+// but not that the words of a vector which is loaded whole do. The compiler makes one load of the
+// eight.
 fn load(words: &[i64]) -> i64x8
     requires { LANES ≤ length words.now }
     ensures value { result ≡ take LANES words.now }

@@ -1,10 +1,10 @@
 use super::*;
 use std::io::{self, ErrorKind};
 
-/// What one call of the reader or writer below is to do.
+/// What one call of the reader or writer below does.
 #[derive(Clone, Copy, Debug, PartialEq, Eq)]
 enum Step {
-    /// Gives or takes as many bytes as the call allows, but at most so many.
+    /// Passes as many bytes as the call allows, but at most this many.
     Pass(usize),
     Fail(ErrorKind),
 }
@@ -13,8 +13,8 @@ const INTERRUPTED: Step = Step::Fail(ErrorKind::Interrupted);
 
 const BROKEN: Step = Step::Fail(ErrorKind::BrokenPipe);
 
-/// A reader and writer that goes through its steps, one a call, and passes nothing behind the last. A flush fails where
-/// a step stands for it that says so.
+/// A reader and writer that does one of its steps at each call, and passes no bytes after the last step. A flush fails
+/// where its step is one that fails.
 #[derive(Drop)]
 struct Scripted {
     steps: &'static [Step],
@@ -75,7 +75,8 @@ fn each_failing_read_is_told_once_and_none_is_tried_again(rt: HostRuntime) {
 
 #[test]
 fn each_failing_put_is_told_once_and_nothing_is_tried_again(rt: HostRuntime) {
-    // The steps of a put of four bytes, its answer, and how many calls it makes: the last may be a flush.
+    // The steps of a put of four bytes, its result, and the number of calls that it makes. The last call may be a
+    // flush.
     let puts: [(&[Step], Result<(), Failed>, usize); 8] = [
         (&[Step::Pass(4), Step::Pass(0)], Ok(()), 2),
         (&[Step::Pass(1), Step::Pass(3)], Ok(()), 3),

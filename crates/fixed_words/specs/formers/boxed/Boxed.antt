@@ -28,12 +28,12 @@ the_former value = value
 abbrev pub the_weighed : {value : Former {0}} → Weighed value → Weighed (the_former value)
 the_weighed weight = weight
 
--- the box as where it lies, who frees it, and its value
+-- the box as its address, its allocator and its value
 abbrev stored : Former {0}
 stored = via (pair (const (Ptr × Global)) this) Inside (λ X fields. ((fields.inner.ptr, fields.inner.alloc), fields.inner.value))
     (λ X parts. record { inner = record { ptr = parts.0.0; alloc = parts.0.1; value = parts.1 } }) (λ X fields. refl) (λ X parts. refl)
 
--- the same place, with another value
+-- the same address, with another value
 abbrev holding : {X Y : Type 0} → Box X Global → Y → Box Y Global
 holding b y = record { ptr = b.ptr; alloc = b.alloc; value = y }
 

@@ -34,7 +34,7 @@ the_items X elements = elements
 pub the_items_listed : (X : Type 0) (elements : List X) → listed _ (children (the_former this) X elements) ≡ the_items X elements
 the_items_listed X elements = list-listed X elements
 
--- the one field, the `Vec` behind the list
+-- the one field, the `Vec` that holds the elements
 abbrev stored : Former {0}
 stored = via (vec.the_former this Global) Inside (λ X fields. fields.items) (λ X v. record { items = v }) (λ X fields. refl) (λ X v. refl)
 

@@ -46,12 +46,12 @@ step_line_fits-returns-else-step_lines_fit t c =
           ∙ first_fails _ (steps_fit c.args.version c.in-If.yes) _ (sym c.expression_fits-in-Some.ensures ∙ w.if-expression_fits-2.false) ∙ sym whole
     ]
 
-pub step_line_fits-returns-then-count-le1000 : goal.step_line_fits-returns-then-count-le1000
-step_line_fits-returns-then-count-le1000 t c =
-    let told = c.step_lines_fit-then-count-le1000.ensures ∙ ap (steps_fit c.args.version) c.as_slice-then-count-le1000.ensures in
+pub step_line_fits-returns-then-count-le-MOST_TURNS : goal.step_line_fits-returns-then-count-le-MOST_TURNS
+step_line_fits-returns-then-count-le-MOST_TURNS t c =
+    let told = c.step_lines_fit-then-count-le-MOST_TURNS.ensures ∙ ap (steps_fit c.args.version) c.as_slice-then-count-le-MOST_TURNS.ensures in
     elim c.if-count-ge1.branch [
       | step_line_fits-then-count-ge1 w ↦
-          second_decides _ _ _ (count_fits c.in-Repeat.count w.if-count-ge1.true (sym w.value-is ∙ c.if-count-le1000.true)) told
+          second_decides _ _ _ (count_fits c.in-Repeat.count w.if-count-ge1.true (sym w.value-is ∙ c.if-count-le-MOST_TURNS.true)) told
           ∙ sym (repeat_fits c.args.version c.args.line.now c.in-Repeat.count c.in-Repeat.body c.in-Repeat.is)
-      | step_line_fits-else-count-ge1 w ↦ true_is_false c.if-count-ge1.value c.if-count-le1000.true (w.value-is ∙ grind (arith, nat_tests))
+      | step_line_fits-else-count-ge1 w ↦ true_is_false c.if-count-ge1.value c.if-count-le-MOST_TURNS.true (w.value-is ∙ grind (arith, nat_tests))
     ]

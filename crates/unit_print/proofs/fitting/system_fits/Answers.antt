@@ -13,7 +13,7 @@ use Rattle.unit_print.proofs.FittingParts.{system_fits, fourth_decides, some_fai
 use Rattle.unit_print.proofs.fitting.system_fits.Goals as goal
 use Rattle.unit_print.proofs.fitting.system_fits.Goals.{then-version_fits, else-version_fits, then-components_fit, else-components_fit}
 
--- What is asked of the parts of the three groups.
+-- The tests of the parts of the three groups.
 abbrev components : System → Bool
 components system =
     (list_all (λ unit. list_all (line_fits system.version) (part_forms (parts.HasUnit unit.name (unit_parts unit)))) system.units
