@@ -5,6 +5,7 @@ use Rattle.std.proofs.Common.{◌≡◌, ◌⊎◌, ◌<◌, ◌≤◌, ℕ, Lis
 use Rattle.std.proofs.lemmas.List.{length-map}
 use Rattle.std.proofs.lemmas.Option.{same_Some}
 use Rattle.std.proofs.lemmas.Slice.Zip.{AllZip-long}
+use Rattle.nest_runs.proofs.TextLaws.{lines_long}
 use Rattle.nest_text.specs.Nests.{IsGroupOf, IsNestOf, RefusesNest, groups_of}
 use Rattle.nest_text.specs.declared.nest.Nest.{Nest}
 use Rattle.nest_text.proofs.NestsThere.{nested_once}
@@ -114,13 +115,6 @@ too_long_nest limit text is long = inl (more (same_Some text_limit limit is) (le
     more is size long = omega (arith, is, size, long)
 
 -- ---- What the command came to
-
--- there is a line for each group
-pub a_line_each : (text : List ℕ) (nest : Nest) → IsNestOf text nest → length nest.lines ≡ length nest.groups
-a_line_each text nest says =
-    ap length says.lines
-    ∙ length-map (groups_of says.cut.front) (λ group. group.head)
-    ∙ sym (AllZip-long IsGroupOf (groups_of says.cut.front) nest.groups says.groups)
 
 pub nest_refused : (text : List ℕ) (why : Stopped) → FindsNest text (Err why) → Makes (Answers Flatten text) (Err why)
 nest_refused text (stopped.Refused line rule) refused = inl (record { line = line; rule = rule; refused = inl refused; is = refl })

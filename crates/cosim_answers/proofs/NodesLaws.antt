@@ -4,6 +4,7 @@ use Rattle.std.proofs.Common.{◌≡◌, ◌⊎◌, ◌+◌, ◌<◌, ◌≤◌,
 use Rattle.std.proofs.Common.{arith, length-append}
 use Rattle.std.proofs.lemmas.List.{length-map}
 use Rattle.std.specs.List.{flat_map}
+use Rattle.link_nodes.proofs.RunLaws.{begins_none}
 use Rattle.cosim_io.specs.Pieces.{AppendsPrefix}
 use Rattle.cosim_io.proofs.PieceLemmas.{AppendsPrefix-nil, AppendsPrefix-whole}
 use Rattle.link_nodes.specs.Rounds.{pair_after}
@@ -94,11 +95,6 @@ nodes_answer_systems asked = record {
 
 -- ---- What the command came to
 
--- where nothing was put
-pub nothing_begins : (plan : Planned) (seed rounds : ℕ) (held : Option (List ℕ)) → BeginsRounds plan seed rounds held held
-nothing_begins plan seed rounds held = record {
-  begins = λ stands ending trace.
-      AppendsPrefix-nil held (header_of plan.system ++ lines_shown plan (pair_after plan.run seed rounds).first stands);
 }
 
 abbrev Owes : Splitting → List ℕ → Stream → Stream → Result Served Stopped → Type 0

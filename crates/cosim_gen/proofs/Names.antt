@@ -7,6 +7,7 @@ use Rattle.std.specs.Str.{bytes_eq}
 use Rattle.std.proofs.lemmas.Bool.{and_parts, or_right}
 use Rattle.std.proofs.lemmas.Bool.Decides.{nat_tests}
 use Rattle.std.proofs.lemmas.Fmt.{decimal_injective, length-decimal-le}
+use Rattle.list_laws.proofs.Truths.{never_true}
 use Rattle.fixed_words.proofs.Numbers.{decimal_is}
 use Rattle.unit_tree.specs.Tokens.{is_digit, is_letter, is_word_byte, IsName}
 use Rattle.text_tokens.specs.Scanning.{keyword_of}
@@ -20,13 +21,9 @@ use Rattle.cosim_gen.specs.Generated.{name_in}
 pub one_name : (one other : ℕ) → one < 64 → other < 64 → name_in one ≡ name_in other → one ≡ other
 one_name one other small few same = decimal_injective one other (omega arith) (omega arith) (ap (drop 1) same)
 
-not_told : (told : Bool) → (told ≡ true → ⊥) → told ≡ false
-not_told true never = absurd (never refl)
-not_told false never = refl
-
 pub other_name : (one other : ℕ) → one < 64 → other < 64 → (one ≡ other → ⊥) → bytes_eq (name_in one) (name_in other) ≡ false
 other_name one other small few apart =
-    not_told (bytes_eq (name_in one) (name_in other)) (λ told. apart (one_name one other small few (same_bytes (name_in one) (name_in other) told)))
+    never_true (bytes_eq (name_in one) (name_in other)) (λ told. apart (one_name one other small few (same_bytes (name_in one) (name_in other) told)))
 
 pub its_name : (place : ℕ) → bytes_eq (name_in place) (name_in place) ≡ true
 its_name place = bytes_of (name_in place) (name_in place) refl

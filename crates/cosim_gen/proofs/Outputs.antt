@@ -8,7 +8,7 @@ use Rattle.unit_tree.specs.Names.{unit_of_instance}
 use Rattle.unit_tree.specs.Orders.{port_of, outputs_in, outputs_of, sources_of, needs_of, needed_by, IsIn, IsOrderlyAfter, HasNoCycle}
 use Rattle.unit_tree.specs.declared.system.PortName.{PortName}
 use Rattle.unit_tree.specs.declared.system.System.{System}
-use Rattle.language_laws.proofs.OrderLaws.{each_in}
+use Rattle.language_laws.proofs.OrderLaws.{each_in, all_in}
 use Rattle.cosim_gen.specs.Generated.{CanGenerate, port_in, later_places, generated}
 use Rattle.cosim_gen.proofs.Names.{one_name}
 use Rattle.cosim_gen.proofs.Ports.{mixer, output_there}
@@ -22,21 +22,6 @@ in_row : (first count place : ℕ) → first ≤ place → place < first + count
 in_row first zero place from below = absurd (omega arith)
 in_row first (suc count) place from below =
     elim (cases_eq first place) [ inl same ↦ inl (ap output_in same) | inr apart ↦ inr (in_row (first + 1) count place (omega (arith, apart)) (omega arith)) ]
-
-all_in : (front ports : List PortName) → AllByRecursion (IsIn (front ++ ports)) ports
-all_in front [] = tt
-all_in front (port ∷ ports) = (
-  behind front ports port,
-  subst (λ whole. AllByRecursion (IsIn whole) ports) (moved front port ports) (all_in (front ++ (port ∷ [])) ports),
-)
-  where
-    behind : (front ports : List PortName) (port : PortName) → IsIn (front ++ (port ∷ ports)) port
-    behind [] ports port = inl refl
-    behind (first ∷ front) ports port = inr (behind front ports port)
-
-    moved : (front : List PortName) (port : PortName) (ports : List PortName) → front ++ (port ∷ []) ++ ports ≡ front ++ (port ∷ ports)
-    moved [] port ports = refl
-    moved (first ∷ front) port ports = ap (λ rest. first ∷ rest) (moved front port ports)
 
 -- A port is the output of a component before this place.
 record Ahead (first : ℕ) (port : PortName) : Type 0 where

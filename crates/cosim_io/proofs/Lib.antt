@@ -1,4 +1,3 @@
-pub mod FaultLemmas
 pub mod PieceLemmas
 pub mod WriteLemmas
 mod MemoryLemmas

@@ -7,9 +7,8 @@
 //! that needs the outcome of a run and not its output.
 //!
 //! The definitions are in `specs/`: `Faults` (when a count rose, and what a call does to it), `Pieces` (what is taken
-//! and appended), `Scripted` (what the source and the sink over memory do). Laws for a caller that reads or writes
-//! several times are in `proofs/FaultLemmas` and `proofs/PieceLemmas`. A function that writes several times names them
-//! by `using(cosim_io::proofs::PieceLemmas::piece_laws)`.
+//! and appended), `Scripted` (what the source and the sink over memory do). Laws for a caller that writes several
+//! times are in `proofs/PieceLemmas`. Such a function names them by `using(cosim_io::proofs::PieceLemmas::piece_laws)`.
 #![tactic(auto)]
 
 mod edge;

@@ -94,3 +94,15 @@ pub on_cycle : (system : System) (port : PortName) → DependsOn system port por
 on_cycle system port itself order orderly stands =
     let before = comes_before system port port itself order orderly stands in
     before.apart before.holds
+
+-- ports are among ports that end with them
+behind : (front ports : List PortName) (port : PortName) → IsIn (front ++ (port ∷ ports)) port
+behind [] ports port = inl refl
+behind (first ∷ front) ports port = inr (behind front ports port)
+
+pub all_in : (front ports : List PortName) → AllByRecursion (IsIn (front ++ ports)) ports
+all_in front [] = tt
+all_in front (port ∷ ports) = (
+  behind front ports port,
+  subst (λ whole. AllByRecursion (IsIn whole) ports) (append_assoc front (port ∷ []) ports) (all_in (front ++ (port ∷ [])) ports),
+)

@@ -5,6 +5,7 @@ use Rattle.std.proofs.lemmas.Option.{get_or_from_slice_get}
 use Rattle.std.proofs.lemmas.Slice.Zip.{AllZip-long}
 use Rattle.std.specs.Prelude.{slice_get, slice_index_or}
 use Rattle.std.specs.Vec.{with_items}
+use Rattle.list_laws.proofs.Vectors.{items_put}
 use Rattle.link_laws.specs.Making.{nothing_known, rule_of}
 use Rattle.link_laws.specs.Nodes.{Making, restarted}
 use Rattle.link_core.specs.Noted.{AreNotes, forgotten, making_in, part_at}
@@ -14,7 +15,7 @@ use Rattle.link_core.specs.declared.course.Kept.{Kept}
 use Rattle.link_core.specs.declared.notes.Notes.{Notes}
 use Rattle.link_core.proofs.GoLaws.{known_is}
 use Rattle.link_core.proofs.LoopLaws.{Made, none_made, one_made}
-use Rattle.link_core.proofs.RoomLaws.{items_put, room_for, room_set, words_in}
+use Rattle.link_core.proofs.RoomLaws.{room_for, room_set, words_in}
 use Rattle.link_core.proofs.StageBodies.{as_many_mapped, mapped_at}
 use Rattle.list_laws.proofs.Members.{read_at}
 use Rattle.list_laws.proofs.Pairs.{zip_set}

@@ -4,18 +4,13 @@ use Rattle.std.proofs.lemmas.List.{drop_all, map-set, take_all}
 use Rattle.std.proofs.lemmas.Option.{same_Some, get_or_from_slice_get}
 use Rattle.std.specs.Prelude.{slice_get, slice_index_or}
 use Rattle.std.specs.Vec.{with_items}
+use Rattle.list_laws.proofs.Vectors.{items_put}
 use Rattle.link_core.proofs.StageBodies.{mapped_at}
 use Rattle.link_core.proofs.TryLaws.{state_long}
 use Rattle.list_laws.proofs.Members.{at_place, read_at}
 use Rattle.list_laws.proofs.Pairs.{zip_at, zip_set}
 use Rattle.port_solve.specs.Solved.{HaveStates}
 use Rattle.unit_tree.specs.Compositions.{Composition, Member}
-
-pub items_put : {X : Type 0} (v : Vec X Global) (items : List X) → length items ≡ length v.items → (with_items v items).items ≡ items
-items_put v items long =
-    let most : length v.items ≤ length items = omega (arith, long) in
-    let all : length items ≤ v.len = omega (arith, long, v.ok.0) in
-    ap (λ rest. take v.len (items ++ rest)) (drop_all (length items) v.items most) ∙ ap (take v.len) (append-nil items) ∙ take_all v.len items all
 
 abbrev pub words_in : Vec ℤ Global → List ℤ
 words_in one = one.items

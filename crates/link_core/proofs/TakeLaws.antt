@@ -28,7 +28,7 @@ use Rattle.link_core.proofs.WordLaws.{given_fits}
 use Rattle.link_core.proofs.WorkLaws.{right}
 use Rattle.list_laws.proofs.Lists.{each_so}
 use Rattle.list_laws.proofs.Members.{at_place}
-use Rattle.list_laws.proofs.Truths.{not_false, true_is_false}
+use Rattle.list_laws.proofs.Truths.{not_false, true_is_false, either_false}
 use Rattle.port_solve.specs.Solved.{HaveTheirWords}
 use Rattle.port_solve.proofs.OutputPlaces.{outlet_of}
 use Rattle.run_laws.proofs.AssignmentLaws.{outlets_count}
@@ -145,11 +145,6 @@ pub taken_is : (run : Composition) (owners : List ℕ) (me : ℕ) (node : Progre
     → did ≡ worked (rule_of run owners) me (knowing node fact) → did ≡ taken (rule_of run owners) me node fact
 taken_is run owners me node fact test did is so worked_is =
     worked_is ∙ sym (ap (λ one. if one then (node, Dropped) else worked (rule_of run owners) me (knowing node fact)) (sym is ∙ so))
-
--- What isn't dropped is of the other node's, and not known.
-either_false : (one other : Bool) → (one || other) ≡ false → (one ≡ false) × (other ≡ false)
-either_false true other is = absurd (cc)
-either_false false other is = (refl, is)
 
 module _ (plan : Planned) (judged : IsJudged plan.run) (owners : List ℕ) (me : ℕ) (units : Fleet) (notes : Notes) (course : Course) (kept : Kept)
     (before : List (List ℤ)) (set : IsSet plan owners me units notes course kept before)

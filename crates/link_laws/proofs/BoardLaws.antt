@@ -16,6 +16,7 @@ use Rattle.std.specs.List.{AllZip, cons_option, enumerate_from, filter_map, list
 use Rattle.std.specs.Option.{option_and_then, option_map}
 use Rattle.std.specs.Prelude.{Bool, List, None, Option, Some, [], false, if◌then◌else◌, is_some, map, true, zip, ℕ, ℤ, ◌&&◌, ◌++◌, ◌∷◌, ◌≡◌}
 use Rattle.std.specs.Result.{result_err}
+use Rattle.list_laws.proofs.Options.{some_same}
 use Rattle.super_time.specs.LocalTime.{local_step, local_time}
 use Rattle.unit_tree.specs.Components.{Moved, step_of}
 use Rattle.unit_tree.specs.Compositions.{Member}
@@ -27,9 +28,6 @@ use Rattle.unit_tree.specs.declared.ending.Ending.TheVariants.{UnitFault}
 use Rattle.unit_tree.specs.declared.ending.Place.TheVariants as place
 
 -- ---- Facts are functional
-
-some_same : {A : Type 0} (found : Option A) (one other : A) → found ≡ Some one → found ≡ Some other → one ≡ other
-some_same found one other is was = cc
 
 pub one_fact : (board : Board) (one other : Fact) → IsOn board one → IsOn board other → IsAlike one other → one ≡ other
 one_fact board (Word row at' seen) (Word other place told) on there alike =

@@ -3,3 +3,4 @@ pub mod Members
 pub mod Options
 pub mod Pairs
 pub mod Truths
+pub mod Vectors

@@ -34,3 +34,10 @@ put_behind true true old new value same none put = rw (none refl) put
 put_behind false false old new value same none put = put ∙ sym (or_none old)
 put_behind true false old new value same none put = absurd (cc)
 put_behind false true old new value same none put = absurd (cc)
+
+-- what is found in one place is one thing
+pub some_same : {A : Type 0} (found : Option A) (one other : A) → found ≡ Some one → found ≡ Some other → one ≡ other
+some_same found one other is was = cc
+
+pub inside : {A : Type 0} {a b : A} → Some a ≡ Some b → a ≡ b
+inside same = cc same

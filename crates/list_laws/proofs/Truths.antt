@@ -67,3 +67,12 @@ one_or_two (suc (suc (suc more))) least most = absurd (omega arith)
 
 pub not_negative : (n : ℕ) → is_negative (pos n) ≡ false
 not_negative n = grind (arith, nat_tests)
+
+-- where a disjunction fails both parts do
+pub either_false : (one other : Bool) → (one || other) ≡ false → (one ≡ false) × (other ≡ false)
+either_false true other is = absurd (cc)
+either_false false other is = (refl, is)
+
+pub never_true : (told : Bool) → (told ≡ true → ⊥) → told ≡ false
+never_true true never = absurd (never refl)
+never_true false never = refl

@@ -33,7 +33,7 @@ use Rattle.sub_flat.proofs.SearchLaws.{place_within}
 use Rattle.language_laws.proofs.NameLaws.{same_bytes}
 use Rattle.language_laws.proofs.PlainNames.{has_flat, has_part, words_on, units, instances, wires}
 use Rattle.list_laws.proofs.Members.{Has, has_front, has_behind, has_map, at_place, found_passes}
-use Rattle.list_laws.proofs.Truths.{lt_not_told, lt_told, not_false, other_fails}
+use Rattle.list_laws.proofs.Truths.{lt_not_told, lt_told, not_false, other_fails, either_false, never_true}
 use Rattle.nest_runs.specs.SoundNests.{IsSound}
 use Rattle.nest_runs.specs.NestPorts.{IsInside, IsScopeAt}
 use Rattle.nest_runs.proofs.SoundLaws.{flat_ranged}
@@ -59,14 +59,6 @@ pub record Led {A B : Type 0} (f : A → Option B) (given : Option A) (to : B) :
 pub led_by : {A B : Type 0} (f : A → Option B) (given : Option A) (to : B) → option_and_then f given ≡ Some to → Led f given to
 led_by f None to is = absurd (cc)
 led_by f (Some one) to is = record { one = one; there = refl; is = is }
-
-pub never_true : (told : Bool) → (told ≡ true → ⊥) → told ≡ false
-never_true true never = absurd (never refl)
-never_true false never = refl
-
-neither : (one other : Bool) → (one || other) ≡ false → (one ≡ false) × (other ≡ false)
-neither true other is = absurd (cc)
-neither false other is = (refl, is)
 
 pub name_long : (prefix name : List ℕ) → suc (length prefix) ≤ length (prefix ++ (name ++ 95 ∷ []))
 name_long prefix name =
@@ -165,12 +157,12 @@ module _ (nest : Nest) (sound : IsSound nest) where
   lines_keep place group is =
       let wires = list_any (wire_misses nest group.instances) group.wires || says_out_twice group.outs in
       let outs = list_any (misbinds (has_output nest) group.instances) group.outs || wires in
-      let ins = neither (list_any (misbinds (has_input nest) group.instances) group.ins) outs (ports_there place group is) in
-      let behind = neither (list_any (misbinds (has_output nest) group.instances) group.outs) wires ins.1 in
+      let ins = either_false (list_any (misbinds (has_input nest) group.instances) group.ins) outs (ports_there place group is) in
+      let behind = either_false (list_any (misbinds (has_output nest) group.instances) group.outs) wires ins.1 in
       record {
         ins = ins.0;
         outs = behind.0;
-        wires = (neither (list_any (wire_misses nest group.instances) group.wires) (says_out_twice group.outs) behind.1).0;
+        wires = (either_false (list_any (wire_misses nest group.instances) group.wires) (says_out_twice group.outs) behind.1).0;
       }
 
   -- ---- Depth
@@ -198,7 +190,7 @@ module _ (nest : Nest) (sound : IsSound nest) where
       let made = inside_made nest is.0 scope is.2 in
       let group = group_at nest is.2.instance.unit made.one made.there in
       let named = well_named made.one group.0 group.1 in
-      let some = first_instance group.0 (neither (has_wrong_name nest group.0) (is_empty group.0.instances) named).1 in (
+      let some = first_instance group.0 (either_false (has_wrong_name nest group.0) (is_empty group.0.instances) named).1 in (
         some.0,
         subst (λ (s : Scope). Has (instances_of nest s.group) some.0) made.is
             (subst (λ xs. Has xs some.0) (sym (group_has nest (λ g. g.instances) made.one group.0 group.1)) some.1),
@@ -280,7 +272,7 @@ module _ (nest : Nest) (sound : IsSound nest) where
 
   ends_by : (group : Option ℕ) (wire : Wire) → wire_misses nest (instances_of nest group) wire ≡ false → EndsThere group wire
   ends_by group wire kept =
-      let both = neither (misses nest (has_output nest) (instances_of nest group) wire.from)
+      let both = either_false (misses nest (has_output nest) (instances_of nest group) wire.from)
       (misses nest (has_input nest) (instances_of nest group) wire.to) kept in
       record {
         from = not_missed output_names (λ g. g.outs) group wire.from both.0;
@@ -291,7 +283,7 @@ module _ (nest : Nest) (sound : IsSound nest) where
   pub ends_there : (depth : ℕ) (scope : Scope) → IsScopeAt nest depth scope → (wire : Wire) → Has (wires_of nest scope.group) wire
       → EndsThere scope.group wire
   ends_there zero scope is wire has =
-      let main = neither (list_any (wire_misses nest nest.main.instances) nest.main.wires)
+      let main = either_false (list_any (wire_misses nest nest.main.instances) nest.main.wires)
       (list_any (misses nest (has_output nest) nest.main.instances) nest.main.samples || list_any (sets_group nest) nest.main.instances)
       main_ports_there in
       subst (λ (s : Scope). EndsThere s.group wire) (sym is)

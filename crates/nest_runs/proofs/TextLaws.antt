@@ -23,7 +23,7 @@ use Rattle.nest_runs.specs.SoundNests.{IsSound}
 use Rattle.nest_runs.proofs.SoundLaws.{flat_printable}
 use Rattle.nest_runs.proofs.TraceLaws.{same_traces}
 
-lines_long : (text : List ℕ) (nest : Nest) → IsNestOf text nest → length nest.lines ≡ length nest.groups
+pub lines_long : (text : List ℕ) (nest : Nest) → IsNestOf text nest → length nest.lines ≡ length nest.groups
 lines_long text nest says =
     ap length says.lines ∙ length-map (groups_of says.cut.front) (λ (lines : GroupLines). lines.head)
     ∙ sym (AllZip-long IsGroupOf (groups_of says.cut.front) nest.groups says.groups)

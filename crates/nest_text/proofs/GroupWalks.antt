@@ -355,14 +355,11 @@ group_read text behind rest head number name made made' heads heads' group ahead
       within = omega (arith, within, fits);
     }
 
-all_read : (groups : List GroupLines) (made : List Group) → AllZip IsGroupOf groups made → AllByRecursion IsRead groups
-all_read [] [] all = tt
-all_read [] (group ∷ made) all = absurd all
-all_read (lines ∷ groups) [] all = absurd all
-all_read (lines ∷ groups) (group ∷ made) all = ((group, all.0), all_read groups made all.1)
-
 pub groups_read : (groups : List GroupLines) (made : List Group) → AllZip IsGroupOf groups made → AllByRecursion IsRead groups
-groups_read = all_read
+groups_read [] [] all = tt
+groups_read [] (group ∷ made) all = absurd all
+groups_read (lines ∷ groups) [] all = absurd all
+groups_read (lines ∷ groups) (group ∷ made) all = ((group, all.0), groups_read groups made all.1)
 
 pub group_refused : (text behind : List ℕ) (head : ℕ) (name : List ℕ) (made : List Group) (heads : List ℕ) (line rule : ℕ)
     → GroupAhead text head name behind made heads
@@ -375,7 +372,7 @@ group_refused text behind head name made heads line rule ahead refuses =
       group = record { name = name; head = head; body = (parted ahead.others).front };
       later = groups_of ahead.others;
       cut = ahead.cut;
-      read = all_read ahead.done made ahead.are_groups;
+      read = groups_read ahead.done made ahead.are_groups;
       refuses = refuses ahead.others ahead.are_others;
     })
 

@@ -13,7 +13,7 @@ use Rattle.run_laws.specs.RestLaws.{IsTail, EndsWithRest}
 
 -- ---- Tails
 
-next_number : (run : Composition) (here next : Stand) → Goes run here next → next.at.number ≡ suc here.at.number
+pub next_number : (run : Composition) (here next : Stand) → Goes run here next → next.at.number ≡ suc here.at.number
 next_number run here next on = sym (ap (λ (at : Position). at.number) (goes_to run here next on))
 
 tail_from : (run : Composition) (from : Stand) (before : List Stand) (here : Stand) (later : List Stand) (ending : Ending)

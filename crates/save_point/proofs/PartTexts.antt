@@ -10,10 +10,12 @@ use Rattle.std.proofs.lemmas.Bool.Decides.{nat_tests}
 use Rattle.std.proofs.lemmas.List.Splits.{join_with_byte-slice_split}
 use Rattle.std.proofs.lemmas.List.{take_at}
 use Rattle.std.proofs.lemmas.Option.{none-some, same_Some}
+use Rattle.unit_print.proofs.LineTests.{is_word_asked, is_word_told}
+use Rattle.unit_print.specs.Fitting.{is_word}
 use Rattle.fixed_words.specs.Types.{is_word_of}
 use Rattle.fixed_words.specs.declared.types.Ty.TheVariants.{Int64}
 use Rattle.list_laws.proofs.Truths.{lt_asked, lt_told, not_true}
-use Rattle.save_point.specs.Reading.{IsNumberText, IsPointText, IsWordText, Tells, behind_space, first_part, is_inside, is_word, other_parts, parts_in, parts_of, state_in, with_word, word_in, words_in}
+use Rattle.save_point.specs.Reading.{IsNumberText, IsPointText, IsWordText, Tells, behind_space, first_part, is_inside, other_parts, parts_in, parts_of, state_in, with_word, word_in, words_in}
 use Rattle.save_point.specs.SavedTexts.{IsState, NamedState, spaced_words}
 use Rattle.save_point.proofs.NumberTexts.{number_inside, number_once, number_told, word_asked, word_inside, word_tells}
 use Rattle.super_time.specs.declared.point.Point.{Point}
@@ -96,19 +98,6 @@ words_asked [] fit = refl
 words_asked (word ∷ words) fit = rw (word_asked word fit.0, words_asked words fit.1) refl
 
 -- ---- States
-
-pub is_word_told : (text : List ℕ) → is_word text ≡ true → IsWord text
-is_word_told [] is = absurd (cc)
-is_word_told (first ∷ others) is =
-    let parts = and_parts (is_letter first) (list_all is_word_byte others && nat_lt (length others) 32) is in
-    let rest = and_parts (list_all is_word_byte others) (nat_lt (length others) 32) parts.1 in
-    (parts.0, rest.0, lt_told (length others) 32 rest.1)
-
-pub is_word_asked : (text : List ℕ) → IsWord text → is_word text ≡ true
-is_word_asked [] word = absurd word
-is_word_asked (first ∷ others) word =
-    and_from (is_letter first) (list_all is_word_byte others && nat_lt (length others) 32) word.0
-    (and_from (list_all is_word_byte others) (nat_lt (length others) 32) word.1 (lt_asked (length others) 32 word.2))
 
 bytes_inside : (bytes : List ℕ) → list_all is_word_byte bytes ≡ true → list_all is_inside bytes ≡ true
 bytes_inside [] all = refl

@@ -7,8 +7,9 @@ use Rattle.std.specs.Option.{option_and_then, option_map}
 use Rattle.std.proofs.lemmas.List.{append_cancel_left, map-append}
 use Rattle.std.proofs.lemmas.Grind.{flat_map-append}
 use Rattle.std.proofs.lemmas.Option.{none-some}
+use Rattle.unit_print.specs.Fitting.{is_word}
 use Rattle.list_laws.proofs.Lists.{each_more}
-use Rattle.save_point.specs.Reading.{PutsState, PutsWords, ReadsSaved, fault_at, first_part, is_word, other_parts, parts_in, parts_of}
+use Rattle.save_point.specs.Reading.{PutsState, PutsWords, ReadsSaved, fault_at, first_part, other_parts, parts_in, parts_of}
 use Rattle.save_point.specs.Reading.{state_in, with_word, word_in, words_in}
 use Rattle.save_point.specs.SavedTexts.{AreNumbers, BeginsState, BeginsWithLines, BreaksAtLine, IsFirstLine, IsSaved, IsState, IsStateLine, LacksLine, NamedState, point_line, row_line, saved_lines}
 use Rattle.save_point.specs.SavedTexts.{spaced_words, state_line, title_line}

@@ -1,6 +1,8 @@
 -- A run that goes on by its own steps, and where in the trace it stands then.
 use Rattle.std.proofs.Common.{◌≡◌, ℕ, zero, suc, ◌+◌, ◌-◌, ◌*◌, ◌<◌, ◌≤◌, true, false, List, [], ◌∷◌, ◌++◌, length, length-append, inl, inr}
 use Rattle.std.proofs.Common.{refl, sym, ap, subst, ◌∙◌, arith, append_assoc}
+use Rattle.trace_core.proofs.FillLaws.{not_ended}
+use Rattle.run_laws.proofs.Rests.{next_number}
 use Rattle.run_laws.proofs.RunTraces.{Rest, goes_to, left, rest_of, same_rests}
 use Rattle.run_laws.proofs.PositionLaws.{positions_keep}
 use Rattle.save_point.specs.SavedTexts.{saved_text}
@@ -45,9 +47,6 @@ pub record Nearer (row : ℕ) (old new : RunState) : Type 0 where
   pub opened : new.opened ≡ old.opened
   pub within : new.stand.at.number ≤ row
   pub fewer : phases_left row new < phases_left row old
-
-next_number : (run : Composition) (here next : Stand) → Goes run here next → next.at.number ≡ suc here.at.number
-next_number run here next on = sym (ap (λ (at : Position). at.number) (goes_to run here next on))
 
 fewer_rows : (row number next here there : ℕ) → number < row → next ≡ suc number → 1 ≤ here → there ≤ 2 → 3 * (row - next) + there < 3 * (row - number) + here
 fewer_rows row number next here there before is some few = omega (arith, before, is, some, few)
@@ -190,13 +189,8 @@ module _ (r : RunState) (stands : Stands r) (start : r.opened ≡ first_position
         short,
       )
 
-going_by : (phase : Phase) → ((ending : Ending) → phase ≡ Ended ending → ⊥) → is_ended phase ≡ false
-going_by (Trial h) not = refl
-going_by (Redo h) not = refl
-going_by (Ended ending) not = absurd (not ending refl)
-
 pub goes_on : (r : RunState) (phase : Phase) → phase ≡ r.phase → ((ending : Ending) → phase ≡ Ended ending → ⊥) → is_ended r.phase ≡ false
-goes_on r phase is not = ap is_ended (sym is) ∙ going_by phase not
+goes_on r phase is not = ap is_ended (sym is) ∙ not_ended phase not
 
 -- ---- From the start
 

@@ -6,6 +6,7 @@ use Rattle.std.specs.List.{list_all, prefix_len, slice_split}
 use Rattle.std.specs.Option.{MatchOption, option_and_then, option_map}
 use Rattle.std.specs.Str.{bytes_eq}
 use Rattle.std.specs.Str.Parse.{signed_digits_value}
+use Rattle.unit_print.specs.Fitting.{is_word}
 use Rattle.model_rules.specs.Limits.{name_limit}
 use Rattle.fixed_words.specs.Types.{is_word_of}
 use Rattle.fixed_words.specs.declared.types.Ty.TheVariants.{Int64}
@@ -80,11 +81,6 @@ words_in [] = Some []
 words_in (part ∷ parts) = option_and_then (λ word. with_word word (words_in parts)) (word_in part)
 
 -- ---- States
-
--- Whether bytes are a word of the language, a reserved one too.
-abbrev pub is_word : List ℕ → Bool
-is_word [] = false
-is_word (first ∷ others) = is_letter first && (list_all is_word_byte others && nat_lt (length others) name_limit)
 
 -- A state of this name, where it is a word.
 abbrev pub state_named : List ℕ → Option (List ℤ) → Option NamedState

@@ -6,10 +6,11 @@ ghost use Rattle.save_point.specs.SavedTexts.{AreNumbers, BeginsWithLines, saved
 
 use crate::fault::SavedFault;
 use crate::lines::{behind_title, take_point, take_row, take_state};
-use crate::words::{cut_part, is_word, word_in};
+use crate::words::{cut_part, word_in};
 use fixed_words::{List, NoMemory};
 use std::alloc::Global;
 use text_tokens::Unread;
+use unit_print::is_word;
 use unit_tree::{Name, Point};
 
 /// What a text saves: a position of a run, and the place of the text that stands behind it.

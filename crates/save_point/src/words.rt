@@ -1,17 +1,14 @@
 //! Numbers and words of a saved text's lines.
-ghost use Rattle.std.specs.Prelude.{◌≡◌, ◌≤◌, ℕ, ℤ, ◌&&◌, nat_lt, length, decimal, true, Some};
+ghost use Rattle.std.specs.Prelude.{◌≡◌, ◌≤◌, ℕ, ℤ, length, decimal, true, Some};
 ghost use Rattle.std.specs.Fmt.{signed_decimal};
-ghost use Rattle.std.specs.List.{list_all, prefix_len};
+ghost use Rattle.std.specs.List.{prefix_len};
 ghost use Rattle.std.specs.Option.{option_map};
 ghost use Rattle.fixed_words.specs.Types.{is_word_of};
 ghost use Rattle.fixed_words.specs.declared.types.Ty.TheVariants.{Int64};
-ghost use Rattle.save_point.specs.Reading.{IsNumberText, IsWordText, Tells, first_part, is_inside, is_word, other_parts, word_in};
+ghost use Rattle.save_point.specs.Reading.{IsNumberText, IsWordText, Tells, first_part, is_inside, other_parts, word_in};
 ghost use Rattle.save_point.specs.SavedTexts.{number_limit};
-ghost use Rattle.unit_tree.specs.Tokens.{is_word_byte};
 
 use itoa::Buffer;
-use model_rules::LONGEST_NAME;
-use unit_tree::{is_letter, is_word_byte};
 
 /// The greatest number that a saved text may have.
 const GREATEST_NUMBER: u64 = 1_000_000_000_000_000;
@@ -73,28 +70,5 @@ pub(crate) fn cut_part(bytes: &[u8]) -> (&[u8], Option<&[u8]>)
     match behind {
         [] => (part, None),
         [_, others @ ..] => (part, Some(others)),
-    }
-}
-
-fn are_word_bytes(bytes: &[u8]) -> bool
-    ensures { result ≡ list_all is_word_byte bytes.now }
-{
-    bytes.iter().all(|byte| is_word_byte(*byte))
-}
-
-/// Whether bytes may stand behind the first of a word.
-fn goes_on(others: &[u8]) -> bool
-    ensures { result ≡ (list_all is_word_byte others.now && nat_lt (length others.now) 32) }
-{
-    are_word_bytes(others) && others.len() < LONGEST_NAME
-}
-
-/// Whether bytes are a word of the language, a reserved one too.
-pub(crate) fn is_word(bytes: &[u8]) -> bool
-    ensures { result ≡ is_word bytes.now }
-{
-    match bytes {
-        [] => false,
-        [first, others @ ..] => is_letter(*first) && goes_on(others),
     }
 }

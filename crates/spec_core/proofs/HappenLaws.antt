@@ -2,6 +2,7 @@
 use Rattle.std.proofs.Common.{◌≡◌, ◌∙◌, ℕ, ◌+◌, ℤ, List, ◌∷◌, ◌++◌, [], length, Option, Some, None, refl, sym, ap, subst, arith, inl, inr, ◌⊎◌}
 use Rattle.std.proofs.lemmas.Option.{none-some, same_Some}
 use Rattle.std.specs.Prelude.{slice_get}
+use Rattle.list_laws.proofs.Options.{some_same}
 use Rattle.code_units.specs.UnitPrograms.{program_of}
 use Rattle.guess_board.specs.Chains.{code_of}
 use Rattle.guess_board.specs.Events.{backed, found, is_full, published, taken, ticket_of}
@@ -51,22 +52,18 @@ IsOrdered r = IsOrderedAt r.plan.run r.stand.at
 abbrev pub AreSame : Reply → Reply → WorldState → WorldState → Type 0
 AreSame told other new next = (told ≡ other) × (new ≡ next)
 
--- What is read at one place is one thing.
-read_once : {A : Type 0} (found : Option A) (one other : A) → found ≡ Some one → found ≡ Some other → one ≡ other
-read_once found one other is is_other = same_Some one other (sym is ∙ is_other)
-
 -- ---- Publish
 
 seen_once : (r : RunState) (instance : ℕ) (one other : Seen) → IsSeenAt r instance one → IsSeenAt r instance other → one ≡ other
 seen_once r instance one other is is_other =
-    let member : is.member ≡ is_other.member = read_once (slice_get r.plan.run.members instance) is.member is_other.member is.is_there is_other.is_there in
+    let member : is.member ≡ is_other.member = some_same (slice_get r.plan.run.members instance) is.member is_other.member is.is_there is_other.is_there in
     let row = is.row ∙ sym is_other.row in
     let time = is.time ∙ sym is_other.time in
     let step = is.step ∙ sym is_other.step in
     let stop = is.stop ∙ sym is_other.stop in
     let factor = is.factor ∙ ap (λ (m : Member). m.factor) member ∙ sym is_other.factor in
-    let last = read_once (slice_get (all_inputs r.plan.run r.stand.ports) instance) one.last other.last is.last is_other.last in
-    let before = read_once (slice_get r.before instance) one.before other.before is.before is_other.before in
+    let last = some_same (slice_get (all_inputs r.plan.run r.stand.ports) instance) one.last other.last is.last is_other.last in
+    let before = some_same (slice_get r.before instance) one.before other.before is.before is_other.before in
     let low = is.low ∙ ap lowest_words member ∙ sym is_other.low in
     let high = is.high ∙ ap highest_words member ∙ sym is_other.high in
     λ i. record {
@@ -88,8 +85,8 @@ front_of world lane state seen = published lane seen.row state (guessed_line wor
 publish_once : (world new next : WorldState) (instance : ℕ) (told other : Reply) → Publishes world instance told new → Publishes world instance other next
     → AreSame told other new next
 publish_once world new next instance told other one two =
-    let lane = read_once (slice_get world.lanes instance) one.lane two.lane one.is_lane two.is_lane in
-    let state = read_once (slice_get world.run.stand.at.states instance) one.state two.state one.is_state two.is_state in
+    let lane = some_same (slice_get world.lanes instance) one.lane two.lane one.is_lane two.is_lane in
+    let state = some_same (slice_get world.run.stand.at.states instance) one.state two.state one.is_state two.is_state in
     let seen = seen_once world.run instance one.seen two.seen one.is_seen two.is_seen in
     let front : front_of world one.lane one.state one.seen ≡ front_of world two.lane two.state two.seen =
     λ i. front_of world (lane i) (state i) (seen i) in (
@@ -102,9 +99,9 @@ publish_once world new next instance told other one two =
 take_once : (world new next : WorldState) (worker instance : ℕ) (told other : Reply) → Takes world worker instance told new
     → Takes world worker instance other next → AreSame told other new next
 take_once world new next worker instance told other one two =
-    let hand = read_once (slice_get world.hands worker) one.hand two.hand one.is_hand two.is_hand in
-    let lane = read_once (slice_get world.lanes instance) one.lane two.lane one.is_lane two.is_lane in
-    let ticket = read_once (ticket_of two.lane) one.ticket two.ticket (ap ticket_of (sym lane) ∙ one.gives) two.gives in
+    let hand = some_same (slice_get world.hands worker) one.hand two.hand one.is_hand two.is_hand in
+    let lane = some_same (slice_get world.lanes instance) one.lane two.lane one.is_lane two.is_lane in
+    let ticket = some_same (ticket_of two.lane) one.ticket two.ticket (ap ticket_of (sym lane) ∙ one.gives) two.gives in
     let moved : with_hand (with_lane world instance (taken one.lane)) worker (one.hand ++ one.ticket ∷ [])
     ≡ with_hand (with_lane world instance (taken two.lane)) worker (two.hand ++ two.ticket ∷ []) =
     λ i. with_hand (with_lane world instance (taken (lane i))) worker (hand i ++ ticket i ∷ []) in
@@ -114,13 +111,13 @@ take_once world new next worker instance told other one two =
 first_once : (world : WorldState) (worker : ℕ) (ticket other : TicketState) (behind others : List TicketState) → HasFirst world worker ticket behind
     → HasFirst world worker other others → (ticket ≡ other) × (behind ≡ others)
 first_once world worker ticket other behind others is is_other =
-    let same = read_once (slice_get world.hands worker) (ticket ∷ behind) (other ∷ others) is is_other in
+    let same = some_same (slice_get world.hands worker) (ticket ∷ behind) (other ∷ others) is is_other in
     (same_first ticket other behind others same, same_rest ticket other behind others same)
 
 steal_once : (world new next : WorldState) (worker from : ℕ) (told other : Reply) → Steals world worker from told new
     → Steals world worker from other next → AreSame told other new next
 steal_once world new next worker from told other one two =
-    let hand = read_once (slice_get world.hands worker) one.hand two.hand one.is_hand two.is_hand in
+    let hand = some_same (slice_get world.hands worker) one.hand two.hand one.is_hand two.is_hand in
     let first = first_once world from one.ticket two.ticket one.others two.others one.first two.first in
     let moved : with_hand (with_hand world from one.others) worker (one.hand ++ one.ticket ∷ [])
     ≡ with_hand (with_hand world from two.others) worker (two.hand ++ two.ticket ∷ []) =
@@ -131,7 +128,7 @@ steal_once world new next worker from told other one two =
 lane_once : (world : WorldState) (ticket other : TicketState) (lane its : LaneState) → ticket ≡ other → slice_get world.lanes ticket.instance ≡ Some lane
     → slice_get world.lanes other.instance ≡ Some its → lane ≡ its
 lane_once world ticket other lane its same is is_its =
-    read_once (slice_get world.lanes other.instance) lane its (ap (λ (t : TicketState). slice_get world.lanes t.instance) (sym same) ∙ is) is_its
+    some_same (slice_get world.lanes other.instance) lane its (ap (λ (t : TicketState). slice_get world.lanes t.instance) (sym same) ∙ is) is_its
 
 counted_once : (one other before after : ℕ) → one + before ≡ after → other + before ≡ after → one ≡ other
 counted_once one other before after is is_other = omega (arith, is, is_other)
@@ -175,10 +172,10 @@ code_for member = code_of (image_for member.component)
 key_once : (r : RunState) (instance : ℕ) (one other : StepKey) → IsKeyAt r instance one → IsKeyAt r instance other → one ≡ other
 unfolding code_of
 key_once r instance one other is is_other =
-    let member : is.member ≡ is_other.member = read_once (slice_get r.plan.run.members instance) is.member is_other.member is.is_there is_other.is_there in
+    let member : is.member ≡ is_other.member = some_same (slice_get r.plan.run.members instance) is.member is_other.member is.is_there is_other.is_there in
     let code = is.code ∙ ap code_for member ∙ sym is_other.code in
-    let state = read_once (slice_get r.stand.at.states instance) one.state other.state is.state is_other.state in
-    let inputs = read_once (slice_get (all_inputs r.plan.run r.stand.ports) instance) one.inputs other.inputs is.inputs is_other.inputs in
+    let state = some_same (slice_get r.stand.at.states instance) one.state other.state is.state is_other.state in
+    let inputs = some_same (slice_get (all_inputs r.plan.run r.stand.ports) instance) one.inputs other.inputs is.inputs is_other.inputs in
     let time = is.time ∙ ap (λ (m : Member). local_time m.factor r.stand.at.point.t) member ∙ sym is_other.time in
     let step = is.step ∙ ap (λ (m : Member). local_step m.factor r.stand.at.point.t (step_length r.phase)) member ∙ sym is_other.step in
     λ i. record { code = code i; state = state i; inputs = inputs i; time = time i; step = step i }
@@ -187,7 +184,7 @@ key_once r instance one other is is_other =
 found_once : (world : WorldState) (instance : ℕ) (lane other : LaneState) (key its : StepKey) → Looks world instance lane key → Looks world instance other its
     → found lane key ≡ found other its
 found_once world instance lane other key its looks looks_other =
-    let lanes = read_once (slice_get world.lanes instance) lane other looks.is_lane looks_other.is_lane in
+    let lanes = some_same (slice_get world.lanes instance) lane other looks.is_lane looks_other.is_lane in
     let keys = key_once world.run instance key its looks.is_key looks_other.is_key in
     λ i. found (lanes i) (keys i)
 
@@ -195,7 +192,7 @@ find_once : (world new next : WorldState) (instance : ℕ) (told other : Reply) 
     → Finds world instance other next ⊎ Misses world instance other next → AreSame told other new next
 find_once world new next instance told other (inl one) (inl two) =
     let same = found_once world instance one.lane two.lane one.key two.key one.looks two.looks in
-    let answer : one.one ≡ two.one = read_once (found two.lane two.key) one.one two.one (sym same ∙ one.is_found) two.is_found in (
+    let answer : one.one ≡ two.one = some_same (found two.lane two.key) one.one two.one (sym same ∙ one.is_found) two.is_found in (
       one.replied ∙ sym two.replied,
       one.is ∙ ap (λ (answered : Answered). with_run world (with_found world.run instance answered.answer)) answer ∙ sym two.is,
     )
@@ -208,7 +205,7 @@ find_once world new next instance told other (inr one) (inr two) = (one.replied 
 compute_once : (world new next : WorldState) (instance : ℕ) (told other : Reply) → Computes world instance told new → Computes world instance other next
     → AreSame told other new next
 compute_once world new next instance told other one two =
-    let step = read_once (step_in world.run instance) one.computed.step two.computed.step one.computed.gives two.computed.gives in
+    let step = some_same (step_in world.run instance) one.computed.step two.computed.step one.computed.gives two.computed.gives in
     let run : new.run ≡ next.run = one.computed.is ∙ ap (with_own world.run instance) step ∙ sym two.computed.is in
     (one.replied ∙ sym two.replied, one.is ∙ ap (with_run world) run ∙ sym two.is)
 

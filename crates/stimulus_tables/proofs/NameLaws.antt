@@ -10,6 +10,7 @@ use Rattle.list_laws.proofs.Truths.{not_true, true_is_false}
 use Rattle.unit_tree.specs.Names.{is_among}
 use Rattle.std.proofs.lemmas.Fmt.{decimal_injective}
 use Rattle.std.proofs.lemmas.List.{length-append}
+use Rattle.list_laws.proofs.Options.{inside}
 use Rattle.csv.specs.Records.{field_at}
 use Rattle.list_laws.proofs.Lists.{each_more, each_part, same_first, same_rest}
 use Rattle.stimulus_tables.specs.Tables.{AllDiffer, IsHead, IsTaken}
@@ -22,9 +23,6 @@ use Rattle.unit_tree.specs.declared.token.Token.{Token}
 use Rattle.unit_tree.specs.declared.token.Token.TheVariants as token
 
 -- ---- Names that are taken
-
-inside : {A : Type 0} {a b : A} → Some a ≡ Some b → a ≡ b
-inside same = cc same
 
 cut_s : (name digits : List ℕ) → behind_s name ≡ Some digits → name ≡ 115 ∷ digits
 cut_s [] digits is = cc is

@@ -3,6 +3,7 @@ use Rattle.std.proofs.Common.{◌≡◌, ◌≢◌, ℕ, ◌+◌, Bool, true, fa
 use Rattle.std.specs.Prelude.{codes, if◌then◌else◌}
 use Rattle.std.specs.List.{AllByRecursion, flat_map}
 use Rattle.std.specs.Str.{bytes_eq}
+use Rattle.language_laws.proofs.OrderLaws.{all_in}
 use Rattle.list_laws.proofs.Lists.{each_more, each_so}
 use Rattle.unit_tree.specs.Names.{Port, port_named}
 use Rattle.unit_tree.specs.Orders.{HasNoCycle, IsIn, IsOrderlyAfter, needed_by, needs_of, outputs_of, port_of, sources_of}
@@ -36,17 +37,6 @@ by_name first one names name false later = later
 needs_none : (first : ℕ) (names : List (List ℕ)) (name : List ℕ) → needs_of (port_named (map plain_port (outputs_from first names)) name) ≡ []
 needs_none first [] name = refl
 needs_none first (one ∷ names) name = by_name first one names name (bytes_eq one name) (needs_none (first + 1) names name)
-
-behind : (front ports : List PortName) (port : PortName) → IsIn (front ++ (port ∷ ports)) port
-behind [] ports port = inl refl
-behind (first ∷ front) ports port = inr (behind front ports port)
-
-all_in : (front ports : List PortName) → AllByRecursion (IsIn (front ++ ports)) ports
-all_in front [] = tt
-all_in front (port ∷ ports) = (
-  behind front ports port,
-  subst (λ whole. AllByRecursion (IsIn whole) ports) (append_assoc front (port ∷ []) ports) (all_in (front ++ (port ∷ [])) ports),
-)
 
 module _ (names : List (List ℕ)) (first : Moment) (later : List Moment) where
   abbrev system : System

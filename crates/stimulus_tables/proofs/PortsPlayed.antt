@@ -3,6 +3,7 @@ use Rattle.std.proofs.Common.{◌≡◌, ℕ, ◌+◌, ◌<◌, ◌≤◌, true,
 use Rattle.std.specs.List.{enumerate_from}
 use Rattle.std.specs.Option.{option_and_then, option_map}
 use Rattle.std.specs.Result.{result_ok, result_err}
+use Rattle.language_laws.proofs.LineLaws.{same_name}
 use Rattle.fixed_words.specs.Types.{is_word_of, kind_of}
 use Rattle.fixed_words.specs.declared.types.Fault.TheVariants.{Range}
 use Rattle.fixed_words.specs.declared.types.Kind.TheVariants as kinds
@@ -20,7 +21,6 @@ use Rattle.language_laws.proofs.MeaningLemmas.{value-Var}
 use Rattle.stimulus_tables.specs.TableSystems.{output_with, outputs_from, states_from, table_unit}
 use Rattle.stimulus_tables.specs.Tables.{state_name}
 use Rattle.stimulus_tables.specs.declared.moment.Moment.{Moment}
-use Rattle.stimulus_tables.proofs.StateNames.{its_name}
 use Rattle.stimulus_tables.proofs.StepLaws.{AreBefore, AreEntries, entry_is_word, one_before, same_slots, slots, slots_are}
 
 -- ---- The component
@@ -51,7 +51,7 @@ module _ (names : List (List ℕ)) (first : Moment) (later : List Moment) where
       → value_of_name (front ++ (variable (state_name at) types.Int64 ∷ slots (at + 1) rest)) (before ++ (word ∷ rest)) (state_name at)
       ≡ record { kind = kinds.Int; word = word }
   value_there at [] [] rest word apart few same =
-      ap (λ b. if b then record { kind = kinds.Int; word = word } else value_of_name (slots (at + 1) rest) rest (state_name at)) (its_name (state_name at))
+      ap (λ b. if b then record { kind = kinds.Int; word = word } else value_of_name (slots (at + 1) rest) rest (state_name at)) (same_name (state_name at))
   value_there at [] (b ∷ before) rest word apart few same = absurd (omega arith)
   value_there at (v ∷ front) [] rest word apart few same = absurd (omega arith)
   value_there at (v ∷ front) (b ∷ before) rest word apart few same =

@@ -21,7 +21,7 @@ use Rattle.list_laws.proofs.Truths.{le_asked, not_negative}
 use Rattle.text_laws.proofs.PrintedLines.{Prints, all_short, all_writable, fixed_short, no_events, none_second, text_within}
 use Rattle.text_laws.proofs.ShortestLines.{unsigned_tokens}
 use Rattle.text_laws.proofs.SpelledBytes.{all_pass}
-use Rattle.text_laws.proofs.TokenWidths.{is_worded, tokens_within, width}
+use Rattle.text_laws.proofs.TokenWidths.{is_worded, tokens_within, width, width_most}
 use Rattle.text_tokens.specs.Scanning.{keyword_of}
 use Rattle.text_tokens.proofs.TableLemmas.{keyword_of_none}
 use Rattle.unit_tree.specs.Canonical.{canonical_forms, canonical_phrase, expression_tokens, form_tokens, line_text, node_phrase, optional, unit_parts}
@@ -254,14 +254,6 @@ assign_prints place (negsuc n) few small =
 
 -- ---- The longest step
 
-width_least : (tokens : List Token) → width false tokens ≤ width true tokens
-width_least [] = omega arith
-width_least (first ∷ others) = omega arith
-
-width_most : (one : Bool) (tokens : List Token) → width one tokens ≤ width true tokens
-width_most true tokens = omega arith
-width_most false tokens = width_least tokens
-
 width_append : (behind : Bool) (one other : List Token) → width behind (one ++ other) ≤ width behind one + width true other
 width_append behind [] other = omega (arith, width_most behind other)
 width_append behind (first ∷ one) other = omega (arith, width_append (is_worded first) one other)
@@ -306,10 +298,10 @@ before_leads time small = record {
   wide = omega (arith, ap (width true) (before_tokens time), time_short time small);
 }
 
-none_of_three : (a b c : List (List ℕ)) → a ≡ [] → b ≡ [] → c ≡ [] → a ++ b ++ c ≡ []
+pub none_of_three : (a b c : List (List ℕ)) → a ≡ [] → b ≡ [] → c ≡ [] → a ++ b ++ c ≡ []
 none_of_three a b c no_a no_b no_c = rw (no_a, no_b, no_c) refl
 
-no_one_of : (a b c : Bool) → a ≡ false → b ≡ false → c ≡ false → (a || (b || c)) ≡ false
+pub no_one_of : (a b c : Bool) → a ≡ false → b ≡ false → c ≡ false → (a || (b || c)) ≡ false
 no_one_of a b c no_a no_b no_c = rw (no_a, no_b, no_c) refl
 
 choose_leads : (time : ℕ) (rest : Expr) (more : ℕ) → time ≤ 10 ^ 9 → Leads rest more → Leads (expr.Choose (is_before time) (until time) rest) (suc more)

@@ -1,6 +1,7 @@
 -- What a reader of a table's records gives, one record after the other.
 use Rattle.std.proofs.Common.{◌≡◌, ℕ, zero, suc, ◌+◌, ◌<◌, ◌≤◌, Bool, true, false, List, [], ◌∷◌, ◌++◌, length, Option, Some, None, Bor, refl, ap, sym, subst, ◌∙◌, arith}
 use Rattle.std.specs.Prelude.{if◌then◌else◌, ◌==◌, ◌||◌}
+use Rattle.list_laws.proofs.Options.{inside}
 use Rattle.csv.specs.Machine.{Read, ends_at_end, field_after, fields_after, is_end, next_record, step}
 use Rattle.csv.specs.Reading.{Reached, ReadRecord, ReadsOn, default_config, is_flexible, records_from, records_next}
 use Rattle.csv.specs.declared.parser.Action.{Action}
@@ -75,9 +76,6 @@ step_between state.AfterCr byte = behind (byte == 10) (byte == 34) (byte == 44) 
 record Leaves (most : ℕ) (read : Read) : Type 0 where
   between : IsBetween read.1
   within : length read.2 ≤ most
-
-inside : {A : Type 0} {a b : A} → Some a ≡ Some b → a ≡ b
-inside same = cc same
 
 leaves_by : (most : ℕ) (fields : Fields) (field : List ℕ) (byte : ℕ) (rest : List ℕ) (to : State × Action) (read : Read) (told : Bool) → is_end to.1 ≡ told → EndsBetween to
     → length rest ≤ most

@@ -2,19 +2,14 @@
 use Rattle.std.proofs.Common.{◌≡◌, ℕ, ◌<◌, Bool, true, false, List, drop, refl, ap, arith}
 use Rattle.std.specs.Str.{bytes_eq}
 use Rattle.std.proofs.lemmas.Fmt.{decimal_injective}
+use Rattle.language_laws.proofs.LineLaws.{same_name}
+use Rattle.list_laws.proofs.Truths.{never_true}
 use Rattle.language_laws.proofs.NameLaws.{bytes_of, same_bytes}
 use Rattle.stimulus_tables.specs.Tables.{state_name}
 
 one_name : (one other : ℕ) → one < 64 → other < 64 → state_name one ≡ state_name other → one ≡ other
 one_name one other small few same = decimal_injective one other (omega arith) (omega arith) (ap (drop 1) same)
 
-pub not_told : (told : Bool) → (told ≡ true → ⊥) → told ≡ false
-not_told true never = absurd (never refl)
-not_told false never = refl
-
 pub other_state : (one other : ℕ) → one < 64 → other < 64 → (one ≡ other → ⊥) → bytes_eq (state_name one) (state_name other) ≡ false
 other_state one other small few apart =
-    not_told (bytes_eq (state_name one) (state_name other)) (λ told. apart (one_name one other small few (same_bytes (state_name one) (state_name other) told)))
-
-pub its_name : (name : List ℕ) → bytes_eq name name ≡ true
-its_name name = bytes_of name name refl
+    never_true (bytes_eq (state_name one) (state_name other)) (λ told. apart (one_name one other small few (same_bytes (state_name one) (state_name other) told)))

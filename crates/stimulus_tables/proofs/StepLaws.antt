@@ -5,6 +5,7 @@ use Rattle.std.specs.List.{AllByRecursion, filter}
 use Rattle.std.specs.Int.{is_negative}
 use Rattle.std.specs.Str.{bytes_eq}
 use Rattle.std.proofs.lemmas.Int.{ints}
+use Rattle.language_laws.proofs.LineLaws.{same_name}
 use Rattle.fixed_words.specs.Operations.{sum, difference, negated, word_of}
 use Rattle.fixed_words.specs.Types.{is_word_of}
 use Rattle.fixed_words.specs.declared.types.Fault.TheVariants.{Range, Overflow}
@@ -25,7 +26,7 @@ use Rattle.language_laws.proofs.MeaningLemmas.{value-Number, value-Time, value-S
 use Rattle.stimulus_tables.specs.TableSystems.{last_of, held, number, until, is_before, is_reached, to_next, sets_from, states_from, takes}
 use Rattle.stimulus_tables.specs.Tables.{state_name}
 use Rattle.stimulus_tables.specs.declared.moment.Moment.{Moment}
-use Rattle.stimulus_tables.proofs.StateNames.{its_name, other_state}
+use Rattle.stimulus_tables.proofs.StateNames.{other_state}
 use Rattle.list_laws.proofs.Truths.{not_negative}
 
 -- ---- Words
@@ -134,7 +135,7 @@ stored_behind : (front rest : List Variable) (name : List ℕ) (before : List �
     → AllByRecursion (λ (v : Variable). bytes_eq v.name name ≡ false) front → length before ≡ length front → is_word_of types.Int64 word ≡ true
     → stored (front ++ (variable name types.Int64 ∷ rest)) (before ++ (old ∷ later)) name word ≡ Ok (before ++ (word ∷ later))
 stored_behind [] rest name [] old word later differ one_each is =
-    ap (λ b. if b then (if is_word_of types.Int64 word then Ok (word ∷ later) else Err Range) else (stored rest later name word >>= λ changed. Ok (old ∷ changed))) (its_name name)
+    ap (λ b. if b then (if is_word_of types.Int64 word then Ok (word ∷ later) else Err Range) else (stored rest later name word >>= λ changed. Ok (old ∷ changed))) (same_name name)
     ∙ ap (λ b. if b then Ok (word ∷ later) else Err Range) is
 stored_behind [] rest name (b ∷ before) old word later differ one_each is = absurd (omega arith)
 stored_behind (other ∷ front) rest name [] old word later differ one_each is = absurd (omega arith)

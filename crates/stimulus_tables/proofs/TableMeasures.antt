@@ -5,6 +5,7 @@ use Rattle.std.specs.Int.{is_negative}
 use Rattle.std.specs.List.{AllByRecursion, sum}
 use Rattle.std.specs.Option.{option_and_then, option_map}
 use Rattle.std.proofs.lemmas.List.Sums.{sum_by-cons}
+use Rattle.stimulus_tables.proofs.Printing.{no_one_of, none_of_three}
 use Rattle.fixed_words.specs.declared.types.Kind.{Kind}
 use Rattle.fixed_words.specs.declared.types.Kind.TheVariants as kinds
 use Rattle.language_laws.proofs.KindLemmas.{kind-Choose, kind_laws}
@@ -121,12 +122,6 @@ until_measures time = record {
   dear = simp expr_lemmas (omega arith);
 }
 
-no_names : (a b c : List (List ℕ)) → a ≡ [] → b ≡ [] → c ≡ [] → a ++ b ++ c ≡ []
-no_names a b c no_a no_b no_c = rw (no_a, no_b, no_c) refl
-
-no_events : (a b c : Bool) → a ≡ false → b ≡ false → c ≡ false → (a || (b || c)) ≡ false
-no_events a b c no_a no_b no_c = rw (no_a, no_b, no_c) refl
-
 all_timed : (a b c : Clocks) → a ≡ time_alone → b ≡ time_alone → c ≡ time_alone → either a (either b c) ≡ time_alone
 all_timed a b c of_a of_b of_c = rw (of_a, of_b, of_c) refl
 
@@ -138,15 +133,15 @@ choose_measures time rest depth cost some measures =
     let before = before_measures time in
     let ends = until_measures time in
     record {
-      named = fold-Choose (List (List ℕ)) node_names c u rest ∙ no_names (names_in c) (names_in u) (names_in rest) before.named ends.named measures.named;
+      named = fold-Choose (List (List ℕ)) node_names c u rest ∙ none_of_three (names_in c) (names_in u) (names_in rest) before.named ends.named measures.named;
       eventless =
           fold-Choose (List (List ℕ)) node_events c u rest
-          ∙ no_names (events_asked_in c) (events_asked_in u) (events_asked_in rest) before.eventless ends.eventless measures.eventless;
+          ∙ none_of_three (events_asked_in c) (events_asked_in u) (events_asked_in rest) before.eventless ends.eventless measures.eventless;
       clocked =
           fold-Choose Clocks node_clocks c u rest ∙ all_timed (clocks_in c) (clocks_in u) (clocks_in rest) before.clocked ends.clocked measures.clocked;
       old =
           fold-Choose Bool node_speaks_of_events c u rest
-          ∙ no_events (speaks_of_events c) (speaks_of_events u) (speaks_of_events rest) before.old ends.old measures.old;
+          ∙ no_one_of (speaks_of_events c) (speaks_of_events u) (speaks_of_events rest) before.old ends.old measures.old;
       deep = omega (arith, fold-Choose ℕ node_depth c u rest, before.deep, ends.deep, measures.deep, some);
       dear = omega (arith, fold-Choose ℕ node_cost c u rest, before.dear, ends.dear, measures.dear);
     }

@@ -5,6 +5,7 @@ use Rattle.std.specs.List.{AllByRecursion, find}
 use Rattle.std.specs.Option.{option_map}
 use Rattle.std.specs.Str.{bytes_eq}
 use Rattle.std.proofs.lemmas.Bool.{cases_eq, or_right}
+use Rattle.list_laws.proofs.Truths.{never_true}
 use Rattle.fixed_words.specs.declared.types.Ty.{Ty}
 use Rattle.fixed_words.specs.declared.types.Ty.TheVariants.{Int64}
 use Rattle.language_laws.proofs.NameLaws.{bytes_of, same_bytes}
@@ -16,7 +17,7 @@ use Rattle.unit_tree.specs.declared.environment.Variable.{Variable}
 use Rattle.unit_tree.specs.declared.unit.State.{State}
 use Rattle.stimulus_tables.specs.TableSystems.{outputs_from, states_from}
 use Rattle.stimulus_tables.specs.Tables.{IsTaken, state_name}
-use Rattle.stimulus_tables.proofs.StateNames.{not_told, other_state}
+use Rattle.stimulus_tables.proofs.StateNames.{other_state}
 
 -- ---- The states
 
@@ -80,10 +81,10 @@ pub state_free : (names : List (List ℕ)) (at : ℕ) → at < 16 → AllByRecur
     → AllByRecursion (λ name. bytes_eq (state_name at) name ≡ false) names
 state_free names at few free =
     each_so (λ (name : List ℕ). IsTaken name → ⊥) (λ name. bytes_eq (state_name at) name ≡ false)
-    (λ name not_taken. not_told (bytes_eq (state_name at) name) (λ told. not_taken (at, few, sym (same_bytes (state_name at) name told)))) names free
+    (λ name not_taken. never_true (bytes_eq (state_name at) name) (λ told. not_taken (at, few, sym (same_bytes (state_name at) name told)))) names free
 
 pub column_free : (names : List (List ℕ)) (at : ℕ) → at < 16 → AllByRecursion (λ name. IsTaken name → ⊥) names
     → AllByRecursion (λ name. bytes_eq name (state_name at) ≡ false) names
 column_free names at few free =
     each_so (λ (name : List ℕ). IsTaken name → ⊥) (λ name. bytes_eq name (state_name at) ≡ false)
-    (λ name not_taken. not_told (bytes_eq name (state_name at)) (λ told. not_taken (at, few, same_bytes name (state_name at) told))) names free
+    (λ name not_taken. never_true (bytes_eq name (state_name at)) (λ told. not_taken (at, few, same_bytes name (state_name at) told))) names free

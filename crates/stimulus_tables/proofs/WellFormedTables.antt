@@ -11,7 +11,7 @@ use Rattle.fixed_words.specs.declared.types.Literal.TheVariants as literal
 use Rattle.language_laws.proofs.NameLaws.{Hold, same_bytes}
 use Rattle.language_laws.proofs.PartLaws.{unit_is}
 use Rattle.list_laws.proofs.Lists.{each_append, each_so}
-use Rattle.list_laws.proofs.Truths.{le_asked, not_negative}
+use Rattle.list_laws.proofs.Truths.{le_asked, not_negative, never_true}
 use Rattle.super_time.specs.Seconds.{seconds_of}
 use Rattle.unit_tree.proofs.FoldLemmas.{fold-Assign, fold-If}
 use Rattle.unit_tree.specs.Canonical.{canonical_parts, optional, unit_parts}
@@ -35,7 +35,7 @@ use Rattle.stimulus_tables.specs.Tables.{AllDiffer, IsMoment, IsWritable, state_
 use Rattle.stimulus_tables.specs.declared.moment.Moment.{Moment}
 use Rattle.stimulus_tables.proofs.SitesPass.{passed}
 use Rattle.text_laws.proofs.KeptRules.{Keeps, all_hold, well_formed}
-use Rattle.stimulus_tables.proofs.StateNames.{not_told, other_state}
+use Rattle.stimulus_tables.proofs.StateNames.{other_state}
 use Rattle.stimulus_tables.proofs.TableLines.{StepPasses, in_step, max_passes, one_more, output_passes, plain, reached_passes, set_passes, state_passes, step_end_passes, step_passes, system, unit}
 use Rattle.stimulus_tables.proofs.TableNames.{column_free}
 
@@ -202,7 +202,7 @@ module _ (names : List (List ℕ)) (first : Moment) (later : List Moment) (is : 
       let line = form.Output (output_with name place) in
       let apart =
       each_so (λ (other : List ℕ). name ≢ other) (λ other. bytes_eq other name ≡ false)
-      (λ other differs. not_told (bytes_eq other name) (λ told. differs (sym (same_bytes other name told)))) ahead differ.0 in (
+      (λ other differs. never_true (bytes_eq other name) (λ told. differs (sym (same_bytes other name told)))) ahead differ.0 in (
         passed own _ (output_passes names first later is earlier name place (omega (arith, few)) new.0 (omega (arith, sized, few, few_words))),
         tt,
         outputs_hold (place + 1) ahead (earlier ++ (line ∷ [])) (omega (arith, few)) differ.1 (all_still_new earlier line name ahead refl new.1 apart)

@@ -19,4 +19,3 @@ pub mod SlotLaws
 pub mod StandLaws
 pub mod StateWordLaws
 pub mod WantLaws
-pub mod WrittenVectors

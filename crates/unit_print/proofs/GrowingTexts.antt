@@ -1,7 +1,7 @@
 -- A text that grows at its end is the text that is joined from the last piece on.
 use Rattle.std.proofs.Common.{◌≡◌, ℕ, ◌-◌, Bool, true, false, List, [], ◌∷◌, ◌++◌, length, Option, Some, None, refl, sym, ap, ◌∙◌, append_assoc, arith, suc}
 use Rattle.std.proofs.Common.{zero, ◌<◌, ◌^◌, ◌+◌, take, drop, replicate, decimal, if◌then◌else◌}
-use Rattle.std.specs.Prelude.{IsTrue, IsFalse, slice_get, map, ◌&&◌, ◌||◌}
+use Rattle.std.specs.Prelude.{IsTrue, IsFalse, slice_get, map, ◌&&◌}
 use Rattle.std.specs.List.{last_or, flat_map, list_all}
 use Rattle.std.proofs.lemmas.List.{append-nil, length-append, length-replicate}
 use Rattle.std.proofs.lemmas.Bool.{or_right}

@@ -1,5 +1,5 @@
 -- The tests of names, numbers and tails agree with the rules.
-use Rattle.std.proofs.Common.{◌≡◌, ◌≤◌, ◌<◌, ℕ, Bool, true, false, List, [], ◌∷◌, length, refl, ap, ◌∙◌}
+use Rattle.std.proofs.Common.{◌≡◌, ◌≤◌, ℕ, Bool, true, false, List, [], ◌∷◌, length, refl, ap, ◌∙◌}
 use Rattle.std.specs.Prelude.{not, nat_le, nat_lt, ◌&&◌, ◌||◌, ◌==◌}
 use Rattle.std.specs.List.{AllByRecursion, list_all, list_any}
 use Rattle.std.specs.Str.{bytes_eq}
@@ -24,16 +24,16 @@ use Rattle.unit_print.specs.Fitting.{is_word, is_reserved, reserved_words, is_na
 
 -- ---- Names
 
-word_told : (text : List ℕ) → is_word text ≡ true → IsWord text
-word_told [] is = absurd (cc)
-word_told (first ∷ others) is =
+pub is_word_told : (text : List ℕ) → is_word text ≡ true → IsWord text
+is_word_told [] is = absurd (cc)
+is_word_told (first ∷ others) is =
     let parts = and_parts (is_letter first) (list_all is_word_byte others && nat_lt (length others) 32) is in
     let rest = and_parts (list_all is_word_byte others) (nat_lt (length others) 32) parts.1 in
     (parts.0, rest.0, lt_told (length others) 32 rest.1)
 
-word_asked : (text : List ℕ) → IsWord text → is_word text ≡ true
-word_asked [] word = absurd word
-word_asked (first ∷ others) word =
+pub is_word_asked : (text : List ℕ) → IsWord text → is_word text ≡ true
+is_word_asked [] word = absurd word
+is_word_asked (first ∷ others) word =
     and_from (is_letter first) (list_all is_word_byte others && nat_lt (length others) 32) word.0 (and_from (list_all is_word_byte others) (nat_lt
     (length others) 32) word.1 (lt_asked (length others) 32 word.2))
 
@@ -101,7 +101,7 @@ pub name_told : (text : List ℕ) → is_name text ≡ true → IsName text
 unfolding is_name
 name_told text is =
     let parts = and_parts (is_word text) (not (is_reserved text)) is in (
-      word_told text parts.0,
+      is_word_told text parts.0,
       λ reserved. true_is_false (is_reserved text) (ap is_reserved reserved.1 ∙ reserved_is reserved.0) (not_true
           (is_reserved text) parts.1),
     )
@@ -112,7 +112,7 @@ free_asked text true is free = absurd (free (reserved_told text is))
 
 pub name_asked : (text : List ℕ) → IsName text → is_name text ≡ true
 unfolding is_name
-name_asked text name = and_from (is_word text) (not (is_reserved text)) (word_asked text name.0) (free_asked text (is_reserved text) refl name.1)
+name_asked text name = and_from (is_word text) (not (is_reserved text)) (is_word_asked text name.0) (free_asked text (is_reserved text) refl name.1)
 
 pub names_told : (names : List (List ℕ)) → list_all is_name names ≡ true → AllByRecursion IsName names
 names_told [] is = _

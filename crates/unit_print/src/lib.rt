@@ -19,5 +19,6 @@ mod printing;
 mod steps;
 mod tokens;
 
+pub use names::is_word;
 pub use printable::is_printable;
 pub use printing::print_system;

@@ -20,7 +20,8 @@ fn goes_on(others: &[u8]) -> bool
     are_word_bytes(others) && others.len() < LONGEST_NAME
 }
 
-fn is_word(text: &[u8]) -> bool
+/// Whether a text is a word of the language, a reserved one too: a letter, then letters, digits and `_`, at most 32 bytes.
+pub fn is_word(text: &[u8]) -> bool
     ensures { result ≡ is_word text.now }
 {
     match text {

@@ -1,5 +1,5 @@
 -- The result for a line that has no form, and for a line that gets a mark.
-use Rattle.std.proofs.Common.{◌≡◌, ℕ, List, Err, inl, inr, refl}
+use Rattle.std.proofs.Common.{ℕ, List, Err, inl, inr, refl}
 use Rattle.unit_tree.specs.declared.line_form.LineForm.{LineForm}
 use Rattle.text_tokens.specs.Scanning.{ReadsAs}
 use Rattle.text_tokens.specs.declared.fault.Unread.{Unread}

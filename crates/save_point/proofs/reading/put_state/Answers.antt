@@ -1,6 +1,6 @@
 use Rattle.std.proofs.Common.{◌≡◌, ◌∙◌, [], ◌∷◌, ◌++◌, Bor, List, ℕ, Err, ap, true, false, arith}
 use Rattle.std.specs.Option.{option_map}
-use Rattle.save_point.specs.Reading.{is_word}
+use Rattle.unit_print.specs.Fitting.{is_word}
 use Rattle.save_point.proofs.ReadStates.{handed, no_name, no_words, puts_state}
 use Rattle.text_tokens.specs.declared.fault.Unread.TheVariants as unread
 use Rattle.save_point.proofs.reading.put_state.Goals as goal

@@ -1,7 +1,7 @@
 use Rattle.std.proofs.Common.{◌≡◌, ◌∙◌, ◌<◌, ◌≤◌, [], Some, length, map, get_or, sym, ap, arith}
 use Rattle.std.proofs.lemmas.List.{get_or_default, length-map}
 use Rattle.std.specs.Vec.{with_items}
-use Rattle.trace_core.proofs.WrittenVectors.{items_put}
+use Rattle.list_laws.proofs.Vectors.{items_put}
 use Rattle.std.proofs.lemmas.Option.{get_or_from_slice_get}
 use Rattle.snap_store.specs.Store.{words_of}
 use Rattle.trace_core.specs.Seats.{IsCommitted, saved}

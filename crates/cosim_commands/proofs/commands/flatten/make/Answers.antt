@@ -1,15 +1,16 @@
 use Rattle.std.proofs.Common.{subst}
+use Rattle.nest_runs.proofs.TextLaws.{lines_long}
 use Rattle.text_accept.specs.Accepting.{IsAcceptedAs}
 use Rattle.cosim_call.specs.Coming.{Makes}
 use Rattle.command_line.specs.declared.commands.Command.TheVariants.{Flatten}
 use Rattle.cosim_answers.specs.Answer.{Answers}
 use Rattle.cosim_answers.specs.Serving.{IsUnaccepted}
-use Rattle.cosim_answers.proofs.FlatLaws.{a_line_each, flat_made, flat_refused, groups_refused, nest_refused}
+use Rattle.cosim_answers.proofs.FlatLaws.{flat_made, flat_refused, groups_refused, nest_refused}
 use Rattle.cosim_answers.proofs.MakingLaws.{handed_on}
 use Rattle.cosim_commands.proofs.commands.flatten.make.Goals as goal
 
 pub flat_text-requires : goal.flat_text-requires
-flat_text-requires c = a_line_each c.args.text.now c.in_ok-nest.nest c.in_ok-nest.ensures
+flat_text-requires c = lines_long c.args.text.now c.in_ok-nest.nest c.in_ok-nest.ensures
 
 pub returns-in_err-nest : goal.returns-in_err-nest
 returns-in_err-nest c =

@@ -1,4 +1,5 @@
 use Rattle.std.proofs.Common.{Err, refl, ap, subst}
+use Rattle.link_nodes.proofs.RunLaws.{begins_none}
 use Rattle.link_nodes.specs.Shown.{BeginsRounds, ShowsRounds}
 use Rattle.trace_rows.specs.declared.fault.CrewFault.{CrewFault}
 use Rattle.trace_plan.specs.Plans.{Planned}
@@ -6,14 +7,13 @@ use Rattle.cosim_call.specs.Calls.{stream}
 use Rattle.cosim_call.specs.declared.coming.Stopped.TheVariants as stopped
 use Rattle.cosim_answers.specs.Serving.{RunsNodes}
 use Rattle.cosim_answers.proofs.MakingLaws.{handed_on}
-use Rattle.cosim_answers.proofs.NodesLaws.{nothing_begins}
 use Rattle.cosim_commands.proofs.commands.nodes.run_pair.Goals as goal
 
 pub returns-in_err-clone : goal.returns-in_err-clone
 returns-in_err-clone g c =
     let out = stream (g.O.Sink.held c.args.out.now) (g.O.Sink.faults c.args.out.now) in
     handed_on (RunsNodes c.args.plan.now.value c.args.asked out out) c.from_residual.result stopped.NoMemory c.from_residual.ensures.1
-    (nothing_begins c.args.plan.now.value c.args.asked.seed c.args.asked.rounds out.bytes, refl)
+    (begins_none c.args.plan.now.value c.args.asked.seed c.args.asked.rounds out.bytes, refl)
 
 pub returns-in-Ok : goal.returns-in-Ok
 returns-in-Ok g c = (

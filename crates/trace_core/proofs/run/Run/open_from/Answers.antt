@@ -10,7 +10,7 @@ use Rattle.trace_core.proofs.KeepLaws.{AreSolved, IsBegunWith, arrival_of}
 use Rattle.trace_core.proofs.MoveLaws.{open_run, open_stands, is_opened}
 use Rattle.trace_core.proofs.SeatLaws.{as_many_kept, kept_in_phase}
 use Rattle.trace_core.proofs.SlotLaws.{saved_is}
-use Rattle.trace_core.proofs.WrittenVectors.{items_put}
+use Rattle.list_laws.proofs.Vectors.{items_put}
 use Rattle.trace_plan.specs.Plans.{IsBounded, Planned}
 use Rattle.trace_units.specs.Fleets.{Fleet}
 use Rattle.unit_tree.specs.Ports.{IsPlaceOrder}

@@ -15,7 +15,7 @@ use Rattle.trace_core.proofs.MoveLaws.{end_stands, end_settled, redo_due, redo_l
 use Rattle.trace_core.proofs.MoveLaws.{settled_by}
 use Rattle.trace_core.proofs.SeatLaws.{as_many_kept, kept_in_phase}
 use Rattle.trace_core.proofs.SettleLaws.{is_ready}
-use Rattle.trace_core.proofs.WrittenVectors.{items_put}
+use Rattle.list_laws.proofs.Vectors.{items_put}
 use Rattle.port_solve.specs.Solved.{ports_told}
 use Rattle.trace_plan.specs.Plans.{Planned}
 use Rattle.trace_units.specs.Fleets.{Fleet}
