@@ -13,9 +13,7 @@ ghost use Rattle.wire_graph.specs.Wiring.{port_named, port_with};
 use fixed_words::{NoMemory, Ty};
 use std::alloc::Global;
 use unit_tree::{Checked, Column, EventOut, Instance, Output, PortName, System, Unit};
-
-/// A port by the names of its instance and of itself.
-type PortKey<'a> = (&'a [u8], &'a [u8]);
+use wire_graph::PortKey;
 
 /// Adds the plain outputs of an instance.
 fn put_outputs<'a>(

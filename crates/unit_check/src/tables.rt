@@ -51,7 +51,7 @@ fn first_wire_too_many(names: &SystemNames<'_>) -> Option<usize>
     let mut count = 0;
     for (place, wire) in names.system().wires.as_slice().iter().enumerate() {
         count += width(names, wire);
-        if count > MOST_CONNECTIONS {
+        if count > MOST_CONNECTIONS as u32 {
             return Some(place);
         }
     }

@@ -6,7 +6,7 @@ use std::alloc::Global;
 use unit_tree::{System, Unit, Wire};
 
 /// A port by the names of its instance and of itself.
-pub(crate) type PortKey<'a> = (&'a [u8], &'a [u8]);
+pub type PortKey<'a> = (&'a [u8], &'a [u8]);
 
 /// An instance that is run: its name and its unit.
 #[derive(Clone, Copy)]

@@ -22,6 +22,7 @@ mod origins;
 mod routing;
 mod sorting;
 
+pub use components::PortKey;
 pub use fault::OrderFault;
 pub use laws::cycles_are_judged_once;
 pub use ordering::{order, output_names};
