@@ -12,10 +12,12 @@ use std::alloc::Global;
 use stimulus_tables::{TableFault, stimulus};
 use unit_tree::System;
 
-/// The rule of tables that leave the form of a table of stimulus.
+/// The rule of tables that don't have the form of a table of stimulus.
 const FORM_RULE: u8 = 36;
 
-/// The system that plays a table. One that leaves the form is refused, at the number of the record in place of a line.
+/// Returns the system that plays a table, or a refusal where it doesn't have the form. The refusal has the number of
+/// the record instead of a
+/// line.
 fn system_of(alloc: Global, table: &[u8]) -> Result<System, Stopped>
     ensures { FindsTable table.now result }
 {
@@ -29,7 +31,7 @@ fn system_of(alloc: Global, table: &[u8]) -> Result<System, Stopped>
     }
 }
 
-/// What is put of a table: the canonical text of the system that plays it.
+/// Returns what is written for a table: the canonical text of the system that plays it.
 #[inline(never)]
 pub(crate) fn make(alloc: Global, table: &[u8]) -> Result<Vec<u8>, Stopped>
     requires within { length table.now ≤ stimulus_limit }

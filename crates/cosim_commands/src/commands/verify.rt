@@ -14,10 +14,10 @@ use itoa::Buffer;
 use std::alloc::Global;
 use trace_verify::{Parted, Verdict, part, verify};
 
-/// The rule of an input without a line that parts a text from a table.
+/// The rule of an input without a line between a text and a table.
 const TABLE_RULE: u8 = 35;
 
-/// The text and the table of an input.
+/// Returns the text and the table of an input, or its refusal.
 fn parts_of(input: &[u8]) -> Result<Parted<'_>, Stopped>
     ensures { FindsParts input.now result }
 {
@@ -30,7 +30,7 @@ fn parts_of(input: &[u8]) -> Result<Parted<'_>, Stopped>
     }
 }
 
-/// The line of a verdict.
+/// Returns the line of a verdict.
 fn line_of(alloc: Global, verdict: Verdict) -> Result<Vec<u8>, NoMemory>
     ensures { IfOk result (λ line. line.items ≡ verdict_text verdict) }
 {
@@ -54,7 +54,7 @@ fn line_of(alloc: Global, verdict: Verdict) -> Result<Vec<u8>, NoMemory>
     Ok(line)
 }
 
-/// What is put of an input: the verdict on the table, which should be the trace of the text before it.
+/// Returns what is written for an input: the verdict on the table, which should be the trace of the text before it.
 #[inline(never)]
 pub(crate) fn make(alloc: Global, input: &[u8]) -> Result<Vec<u8>, Stopped>
     requires within { length input.now ≤ verify_limit }
