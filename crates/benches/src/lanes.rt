@@ -6,15 +6,15 @@ use std::io;
 use std::time::Instant;
 use word_lanes::first_mismatch;
 
-/// How often the comparisons are made: the shortest time counts.
+/// How many times the comparisons are made: the shortest time counts.
 const ROUNDS: u32 = 5;
 
 /// What a bench prints.
 #[derive(Clone, Copy)]
 pub(crate) enum Output {
-    /// Whether both ways give the same, which a run prints each time alike.
+    /// Whether both methods find the same. A run prints the same each time.
     Answer,
-    /// How long each took as well.
+    /// Also how long each method took.
     Times,
 }
 
@@ -35,8 +35,8 @@ fn plain_mismatch(a: &[i64], b: &[i64]) -> Option<usize>
     None
 }
 
-/// How many of so many comparisons find the lists equal. Both lists get the comparison's number at one place before
-/// each, so that none can stand for another.
+/// Returns how many of so many comparisons find the lists equal. Before each, one place of both lists gets the comparison's number, so that
+/// no comparison can be left out.
 fn equal_comparisons(method: Method, comparisons: u32, a: &mut [i64], b: &mut [i64]) -> u32
     requires same_length { length a.old ≡ length b.old }
     requires some { 0 < length a.old }
@@ -57,7 +57,7 @@ fn equal_comparisons(method: Method, comparisons: u32, a: &mut [i64], b: &mut [i
     equal
 }
 
-/// Whether all comparisons of lists of so many words, at least one, find them equal, and the time of the shortest round.
+/// Returns whether all comparisons of lists of so many words, at least one, find them equal, and the time of the shortest round.
 fn timed(
     rt: &HostRuntime,
     method: Method,
@@ -77,7 +77,7 @@ fn timed(
     Ok((are_equal, shortest))
 }
 
-/// Prints what so many comparisons of lists of so many words give.
+/// Prints the result of so many comparisons of lists of so many words.
 pub(crate) fn run(
     rt: &HostRuntime,
     output: Output,

@@ -1,5 +1,5 @@
-//! Times the kernel that compares lists of words by lanes, beside a plain loop, and prints whether both find the same. Each time is
-//! that of the shortest of several rounds.
+//! Times the kernel that compares lists of words by lanes, and a plain loop, and prints whether both find the same. Each time is that of
+//! the shortest of several rounds.
 //!
 //! - `benches COMPARISONS WORDS`: so many comparisons of equal lists of so many words.
 //! - `benches`: a few comparisons, without times, so that what it prints is the same each time.
@@ -17,7 +17,7 @@ const USAGE: &str = "benches: give nothing, or COMPARISONS WORDS";
 /// The status where the words have no form.
 const MISUSED: u8 = 2;
 
-/// What the words of the call ask for.
+/// The request of the words of the call.
 #[derive(Clone, Copy)]
 struct Request {
     output: Output,
@@ -25,14 +25,14 @@ struct Request {
     words: u32,
 }
 
-/// Over at once. The lists don't fill the last vector of lanes.
+/// A short one. The lists don't fill the last vector of lanes.
 const SMALL: Request = Request {
     output: Output::Answer,
     comparisons: 10,
     words: 100_003,
 };
 
-/// What words ask for; none where they have no form.
+/// Returns the request of some words, or `None` where they have no form.
 fn request_of(words: &[String]) -> Option<Request> {
     match words {
         [] => Some(SMALL),
@@ -45,7 +45,7 @@ fn request_of(words: &[String]) -> Option<Request> {
     }
 }
 
-/// The words of the call behind the program's name.
+/// Returns the words of the call after the program's name.
 fn arguments(rt: &HostRuntime) -> io::Result<Vec<String>> {
     let mut arguments = Vec::new(rt.alloc());
     for argument in env::args(rt)?.skip(1) {

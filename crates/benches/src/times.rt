@@ -15,13 +15,13 @@ impl Shortest {
         }
     }
 
-    /// Takes the round that began at `start` and ends now.
+    /// Ends the round that began at `start`.
     pub(crate) fn end_round(&mut self, rt: &HostRuntime, start: Instant) -> io::Result<()> {
         self.nanoseconds = self.nanoseconds.min(start.elapsed(rt)?.as_nanos());
         Ok(())
     }
 
-    /// What each took, where a round had so many; zero where it had none.
+    /// Returns the time of each of so many in a round, or zero where there are none.
     pub(crate) fn each(self, count: u64) -> Nanoseconds {
         let hundredths = self.nanoseconds.saturating_mul(100);
         Nanoseconds {

@@ -1,4 +1,4 @@
--- Each instruction of a piece may stand in a part for any use.
+-- Each instruction of a piece is allowed in a part for any use.
 use Rattle.std.proofs.Common.{◌≡◌, ℕ, ◌+◌, ◌≤◌, ◌&&◌, List, [], ◌∷◌, ◌++◌, length, refl, sym, ◌∙◌, arith}
 use Rattle.std.proofs.lemmas.List.Elements.{All-nil, All-cons, All-append}
 use Rattle.std.specs.Prelude.{nat_le, IsTrue}
@@ -15,7 +15,7 @@ use Rattle.code_pieces.specs.Pieces.{Piece, Nothing, One, Then, Choice, When, Tu
 use Rattle.code_pieces.proofs.PieceShapes.{Made}
 use Rattle.list_laws.proofs.Truths.{le_asked}
 
--- What ends no run fits every use.
+-- An instruction that ends no run is allowed for every use.
 fits : (use_of : Role) (i : Instruction) → (flow_of i ≡ flow.End → ⊥) → IsTrue (fits_role use_of i)
 fits role.Output (Give ty) h = absurd (h refl)
 fits role.Output Limit h = absurd (h refl)

@@ -11,7 +11,7 @@ use Rattle.code_pieces.specs.Pieces.{Piece, Nothing, One, Then, Choice, When, Tu
 use Rattle.code_pieces.proofs.ItemPlaces.{HasAt, has_front, has_back, has_to}
 use Rattle.list_laws.proofs.Truths.{le_told}
 
--- The height behind a piece, where there is one.
+-- The height after a piece, where there is one.
 abbrev pub left : Piece → ℕ → ℕ
 left piece height = unwrap_or (height_behind piece height) 0
 
@@ -48,7 +48,7 @@ marks_length (Turns count body) height =
     let there = length-append (flat body) (Next (length (flat body)) ∷ []) in
     omega (arith, e, here, there)
 
--- What it says that there is a height behind a piece.
+-- The consequences of a height after a piece.
 eq_told : (a b : ℕ) → IsTrue (nat_eq a b) → a ≡ b
 eq_told a b e = grind (arith, nat_tests)
 
@@ -72,7 +72,7 @@ both_told (Some one) (Some other) told e =
     let same = eq_told one other t.0 in
     (ap (λ n. Some n) t.1, ap (λ n. Some n) (sym same ∙ t.1))
 
--- Both ends of a piece are as high as its top at most.
+-- Both ends of a piece are at most as high as its top.
 pub under_top : (piece : Piece) (height told : ℕ) → height_behind piece height ≡ Some told → (height ≤ top_of piece height) × (told ≤ top_of piece height)
 under_top Nothing height told e = let same = same_Some height told e in (omega arith, omega (arith, same))
 under_top (One instruction) height told e =
@@ -102,7 +102,7 @@ under_top (Turns count body) height told e =
     let one = under_top body height told b.0 in
     (omega arith, omega (arith, one.1))
 
--- The height before a piece is the one at its first place, or the one behind it where it has no place.
+-- The height before a piece is the one at its first place, or the one after the piece where it has no place.
 pub first_mark : (heights : List ℕ) (place : ℕ) (piece : Piece) (height told : ℕ) → HasAt heights place (marks piece height)
     → height_behind piece height ≡ Some told
     → slice_get heights (place + length (flat piece)) ≡ Some told → slice_get heights place ≡ Some height

@@ -1,8 +1,8 @@
--- Items that stand in a list, from a place on: instructions in code, heights among those of its places.
+-- Items that are in a list from a place on: instructions in code, heights among those of its places.
 use Rattle.std.proofs.Common.{◌≡◌, ℕ, suc, ◌+◌, List, [], ◌∷◌, ◌++◌, length, Some, sym, ap, ◌∙◌, subst, arith}
 use Rattle.std.specs.Prelude.{slice_get, ⊤}
 
--- These items stand at a place, one behind the other.
+-- A list has these items from a place on, one after the other.
 abbrev pub HasAt : {A : Type 0} → List A → ℕ → List A → Type 0
 HasAt list place [] = ⊤
 HasAt list place (x ∷ xs) = (slice_get list place ≡ Some x) × HasAt list (suc place) xs
@@ -20,7 +20,7 @@ has_back list place (x ∷ xs) ys h =
     let e : suc place + length xs ≡ place + suc (length xs) = omega arith in
     has_to list (suc place + length xs) (place + suc (length xs)) ys e (has_back list (suc place) xs ys h.1)
 
--- A list stands in itself.
+-- A list has its own items.
 has_all : {A : Type 0} (list : List A) (place : ℕ) (xs : List A) → ((k : ℕ) → slice_get list (place + k) ≡ slice_get xs k) → HasAt list place xs
 has_all list place [] h = tt
 has_all list place (x ∷ xs) h =

@@ -1,4 +1,4 @@
--- The machine follows a piece wherever it stands.
+-- The machine follows a piece at any place.
 use Rattle.std.proofs.Common.{◌≡◌, ℕ, zero, suc, ◌+◌, ◌-◌, Bool, true, false, ℤ, List, [], ◌∷◌, ◌++◌, length, Some, refl, sym, ap, ◌∙◌, subst, arith}
 use Rattle.std.proofs.Common.{length-append}
 use Rattle.std.specs.Prelude.{slice_get, ⊤, if◌then◌else◌}
@@ -25,11 +25,11 @@ abbrev at : ℕ → List ℕ → Work → State
 at place counters work = record { place = place; counters = counters; work = work }
 
 module _ (code : List Instruction) where
-  -- From one state a run comes to another: it goes on as from there.
+  -- A run gets from one state to another, and goes on from there.
   abbrev Comes : State → State → Type 0
   Comes s t = (n : ℕ) → (m : ℕ) × (after code m s ≡ after code n t)
 
-  -- From a state it comes to a place with these counters, where work is done, and else meets what work meets.
+  -- A run gets from a state to a place with these counters, where the work succeeds. Otherwise it ends as the work does.
   abbrev Leads : State → ℕ → List ℕ → Did → Type 0
   Leads s place counters (Does work) = Comes s (at place counters work)
   Leads s place counters (Fails failed) = (m : ℕ) × (after code m s ≡ Faults failed)
@@ -70,7 +70,7 @@ module _ (code : List Instruction) where
   jump_comes place distance other counters work here e n =
       (suc n, step (at place counters work) (Jump distance) (flow.Ahead distance) here refl n ∙ ap (λ p. after code n (at p counters work)) e)
 
-  -- A word is popped, and one of two ways is taken.
+  -- A word is popped, and one of two paths is taken.
   choice_leads : (place distance end : ℕ) (counters : List ℕ) (work : Work) (stack : List ℤ) (first second : Work → Did)
       → slice_get code place ≡ Some (JumpFalse distance) → work.stack ≡ stack
       → ((rest : Work) → Leads (at (suc place) counters rest) end counters (first rest))
@@ -98,7 +98,7 @@ module _ (code : List Instruction) where
           comes_first (at place counters work) (at (suc place) counters (record work { stack = rest })) end counters (first (record work { stack = rest })) c
           (yes_way (record work { stack = rest }))
 
-  -- From the first instruction of a loop's body, with so many turns left behind this one.
+  -- From the first instruction of a loop's body, with so many turns left after this one.
   turns_lead : (begin size : ℕ) (counters : List ℕ) (body : Work → Did) → slice_get code (begin + size) ≡ Some (Next size)
       → ((counter : ℕ) (work : Work) → Leads (at begin (counter ∷ counters) work) (begin + size) (counter ∷ counters) (body work))
       → (left : ℕ) (work : Work) → Leads (at begin (suc left ∷ counters) work) (suc (begin + size)) counters (repeated (suc left) body work)
@@ -165,7 +165,7 @@ module _ (code : List Instruction) where
       (turns_lead (suc place) (length (flat body)) counters (does body) rest.0
       (λ counter behind. piece_leads sizes body m.2 (suc place) (has_front code (suc place) (flat body) tail has.1) (counter ∷ counters) behind) left work))
 
--- What a run comes to that goes on no further.
+-- The course of a run that has ended.
 abbrev IsLast : Course → Type 0
 IsLast (Goes state) = ⊥
 IsLast _ = ⊤
@@ -208,7 +208,7 @@ finish_leads code s place finish (Does work) here e l =
 finish_leads code s place finish (Fails failed) here e l = l
 finish_leads code s place finish Lacks here e l = l
 
--- A run that is over stays so.
+-- A run that is over stays over.
 stays_over : (code : List Instruction) (m n : ℕ) (s : State) (course : Course) → IsOver course → after code m s ≡ course → after code (m + n) s ≡ course
 stays_over code zero n s course over e = absurd (subst IsOver (sym e) over)
 stays_over code (suc m) n s course over e =

@@ -1,4 +1,4 @@
--- The places of a piece are in order wherever it stands: their jumps, loops and heights, the way to them, and their cost.
+-- The places of a piece are in order at any place of the code: their jumps, loops and heights, the path to them, and their cost.
 use Rattle.std.proofs.Common.{◌≡◌, ℕ, suc, ◌+◌, ◌-◌, ◌*◌, ◌<◌, ◌≤◌, List, [], ◌∷◌, ◌++◌, length, Some, refl, sym, ap, ◌∙◌, subst, inl, inr, ⊎_elim, arith}
 use Rattle.std.proofs.Common.{length-append, mul-add, mul-one, mul-zero, mul_assoc, mul_comm}
 use Rattle.std.proofs.lemmas.Bool.{cases_lt}
@@ -17,7 +17,7 @@ use Rattle.code_pieces.proofs.PieceShapes.{Made}
 use Rattle.code_pieces.proofs.Heights.{left, marks, marks_length, single_told, and_told, popped_told, both_told, under_top, first_mark}
 
 module _ (code : List Instruction) (heights : List ℕ) where
-  -- A place is in order, and the next one is led to from it or an earlier one.
+  -- A place is in order, and the next one is reached from it or from an earlier one.
   pub record Placed (place : ℕ) : Type 0 where
     pub instruction : Instruction
     pub stands : slice_get code place ≡ Some instruction
@@ -32,8 +32,8 @@ module _ (code : List Instruction) (heights : List ℕ) where
     pub earlier : before ≤ place
     pub leads : IsWay code before (suc place)
 
-  -- All places from one to another are in order, the loops behind them are those before, and this is their price in
-  -- one turn of these loops.
+  -- All places from one to another are in order, the loops after them are those before, and this is their cost in one turn of these
+  -- loops.
   pub record Block (from to price : ℕ) : Type 0 where
     pub placed : (k : ℕ) → from ≤ k → k < to → Placed k
     pub same : loops_around code to ≡ loops_around code from
@@ -121,7 +121,7 @@ module _ (code : List Instruction) (heights : List ℕ) where
       apart : (other : ℕ) → flow.Branch d ≡ flow.Back other → ⊥
       apart other e = cc
 
-  -- A jump, whose next place is led to from elsewhere.
+  -- A jump, whose next place is reached from elsewhere.
   placed_jump : (p d height before : ℕ) → slice_get code p ≡ Some (Jump d) → slice_get heights p ≡ Some height → height ≤ 64
       → slice_get heights (p + d) ≡ Some height → loops_around code (p + d) ≡ loops_around code p → before ≤ p → IsWay code before (suc p) → Placed p
   placed_jump p d height before stands high low far same earlier way =

@@ -18,7 +18,7 @@ use Rattle.code_pieces.proofs.Heights.{marks, marks_length, under_top, first_mar
 use Rattle.code_pieces.proofs.PieceBlocks.{Placed, Block, block}
 use Rattle.code_pieces.proofs.AllowedInstructions.{allowed, allowed_both, allowed_end}
 
--- Places that are each led to from an earlier one are reached.
+-- Places that are each reached from an earlier one are reached.
 reach : (code : List Instruction) (heights : List ℕ) (behind : ℕ) → ((k : ℕ) → k < behind → Placed code heights k) → (bound place : ℕ) → place < bound
     → place ≤ behind → (steps : ℕ) × Reaches code steps place
 reach code heights behind placed zero place below within = absurd (omega (arith, below))
@@ -29,7 +29,7 @@ reach code heights behind placed (suc bound) (suc k) below within =
     let before = reach code heights behind placed bound h.before (omega (arith, earlier, below)) (omega (arith, earlier, within)) in
     (suc before.0, (h.before, before.1, h.leads))
 
--- A block from the entry on, with an end behind it.
+-- A block from the entry on, and then an end.
 module _ (code : List Instruction) (heights : List ℕ) (end last price : ℕ) (finish : Instruction) (all : Block code heights 0 end price)
     (is_end : slice_get code end ≡ Some finish) (ends : flow_of finish ≡ flow.End) (high : slice_get heights end ≡ Some last)
     (long : length code ≡ suc end) where

@@ -1,4 +1,4 @@
--- What it means that a piece is made right, as facts by cases.
+-- What a well-made piece means, as facts by cases.
 use Rattle.std.proofs.Common.{◌≡◌, ℕ, ◌≤◌, Bool, true, false, ◌&&◌, refl, arith}
 use Rattle.std.proofs.lemmas.Bool.Decides.{nat_tests}
 use Rattle.std.specs.Prelude.{nat_le, IsTrue, ⊤}

@@ -18,7 +18,7 @@ use Rattle.unit_vm.specs.Machine.{opening, run_of}
 use Rattle.unit_vm.specs.Checking.{IsValid}
 use Rattle.code_pieces.specs.Pieces.{Piece, cost, is_made, height_behind, top_of, part_code, does, finished}
 
--- The machine does what a piece does: a run of valid code from an entry whose part is a piece and its end.
+-- The machine does what a piece does: in a run of valid code from an entry whose part is a piece and its end.
 abbrev pub PiecesAreFollowed : Type 0
 PiecesAreFollowed = (program : Program) (facts : CodeFacts) → HasFacts program facts
     → (entry : Entry) (piece : Piece) (finish : Instruction) → part_at program entry ≡ Some (part_code piece finish)
@@ -40,7 +40,7 @@ pub record FitsPart (sizes : Sizes) (role : Role) (piece : Piece) (finish : Inst
   pub low : top_of piece 0 ≤ 64
   pub cheap : cost piece + 1 ≤ cost_limit
 
--- The part is valid, with these heights, and costs as much as the piece and one.
+-- The part is valid, with these heights, and costs one more than the piece.
 pub record IsValidPart (sizes : Sizes) (role : Role) (piece : Piece) (finish : Instruction) : Type 0 where
   pub heights : List ℕ
   pub valid : IsPart sizes (record { role = role; code = part_code piece finish }) heights

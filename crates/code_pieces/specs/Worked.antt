@@ -21,7 +21,7 @@ doubled = Then (Then (One (Load 0)) (One (Push (pos 2)))) (Then (One Multiply) (
 abbrev pub doubled_three_times : Piece
 doubled_three_times = Turns 3 doubled
 
--- One word more on the stack, perhaps.
+-- One more word on the stack, or not.
 abbrev pub perhaps_more : Piece
 perhaps_more = When (One (Push (pos 1)))
 

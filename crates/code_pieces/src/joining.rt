@@ -5,7 +5,7 @@ use fixed_words::{List, NoMemory};
 use std::alloc::{AllocError, Global};
 use unit_vm::Instruction;
 
-/// One code behind the other. It takes the memory by which the first grows.
+/// Appends the second code to the first. It takes memory as the first grows.
 pub fn joined(
     first: List<Instruction>,
     second: List<Instruction>,
@@ -17,8 +17,8 @@ pub fn joined(
     Ok(List::from_vec(code))
 }
 
-/// The code that pops a word and runs the second code where it is 0, and else the first. `NoMemory` too
-/// where one of them has as many instructions as a jump can't go.
+/// Returns the code that pops a word, and runs the second code where it is 0, and otherwise the first. It also fails with
+/// `NoMemory` where one of them is too long for a jump.
 pub fn choice(
     alloc: Global,
     first: List<Instruction>,
@@ -34,8 +34,8 @@ pub fn choice(
     Ok(List::from_vec(code))
 }
 
-/// The code that pops a word and runs the body where it is not 0. `NoMemory` too where the body has as many
-/// instructions as a jump can't go.
+/// Returns the code that pops a word, and runs the body where it is not 0. It also fails with `NoMemory` where the body is too
+/// long for a jump.
 pub fn when(alloc: Global, body: List<Instruction>) -> Result<List<Instruction>, NoMemory>
     ensures { IfOk result (λ code. code ≡ when_code body) }
 {
@@ -45,8 +45,7 @@ pub fn when(alloc: Global, body: List<Instruction>) -> Result<List<Instruction>,
     Ok(List::from_vec(code))
 }
 
-/// The code that runs the body so many times. `NoMemory` too where the body has as many instructions as a
-/// jump can't go.
+/// Returns the code that runs the body `count` times. It also fails with `NoMemory` where the body is too long for a jump.
 pub fn turns(
     alloc: Global,
     count: u32,
@@ -61,7 +60,7 @@ pub fn turns(
     Ok(List::from_vec(code))
 }
 
-/// A jump over the code and so many instructions more.
+/// Returns the distance of a jump over the code and so many instructions more. `NoMemory` where it is too long.
 fn distance(code: &List<Instruction>, more: u32) -> Result<u32, NoMemory>
     requires { more ≤ 2 }
     ensures { IfOk result (λ told. told ≡ length code.now + more) }

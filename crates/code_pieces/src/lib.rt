@@ -1,9 +1,9 @@
-//! Structured code for the stack machine: pieces, which stand one behind the other, in choices and in loops.
+//! Structured code for the stack machine: pieces, in sequence, in choices and in loops.
 //!
-//! What a piece does is said without places, counters or a bound on instructions. The laws are that the
-//! machine does the same ([`pieces_are_followed`]), and that parts made of pieces are valid code
-//! ([`piece_parts_are_valid`], [`piece_programs_have_facts`]). The layer above makes the code of pieces
-//! by [`joined`], [`choice`], [`when`] and [`turns`]: jumps are relative, so code is joined as it is.
+//! The meaning of a piece is defined without places, counters or a bound on instructions. Laws say that the machine does the
+//! same ([`pieces_are_followed`]), and that parts made of pieces are valid code ([`piece_parts_are_valid`],
+//! [`piece_programs_have_facts`]). The layer above makes the code of pieces by [`joined`], [`choice`], [`when`] and [`turns`]. Jumps
+//! are relative, so code is joined unchanged.
 //!
 //! Definitions: `specs/Pieces.antt` (pieces: their code, what they do, cost and need), `specs/Laws.antt`,
 //! `specs/Worked.antt`.

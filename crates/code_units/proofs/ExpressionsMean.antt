@@ -38,7 +38,7 @@ module _ (slots : List ℤ) (accepted : ℕ) where
   abbrev pub at : List ℤ → Work
   at stack = record { stack = stack; slots = slots; accepted = accepted }
 
-  -- What was done pushes the value, of this kind, or is its fault.
+  -- The result pushes the value, of this kind, or is its fault.
   abbrev pub Gives : Kind → List ℤ → Did → Result Value Fault → Type 0
   Gives kind stack did (Ok value) = (did ≡ Does (at (value.word ∷ stack))) × (value.kind ≡ kind)
   Gives kind stack did (Err fault) = did ≡ Fails fault
@@ -57,7 +57,7 @@ module _ (slots : List ℤ) (accepted : ℕ) where
   given_truth true stack did is = (is, refl)
   given_truth false stack did is = (is, refl)
 
-  -- An operation behind a piece.
+  -- An operation after a piece.
   behind_it : (piece : Piece) (stack : List ℤ) (did : Did) (instruction : Instruction) → does piece (at stack) ≡ did
       → does (Then piece (One instruction)) (at stack) ≡ and_then did (act instruction)
   behind_it piece stack did instruction is = ap (λ d. and_then d (act instruction)) is
@@ -122,7 +122,7 @@ module _ (slots : List ℤ) (accepted : ℕ) where
       (unary_gives op a.piece v.kind v.word stack x.0)
   unary_means op a (Err fault) m agrees stack = failed a.piece stack fault (unary_code op a.kind) (m agrees stack)
 
-  -- A piece, and what comes behind it.
+  -- A piece, and what comes after it.
   then_does : (piece next : Piece) (stack : List ℤ) (did : Did) → does piece (at stack) ≡ did → does (Then piece next) (at stack) ≡ and_then did (does next)
   then_does piece next stack did is = ap (λ d. and_then d (does next)) is
 
@@ -156,7 +156,7 @@ module _ (slots : List ℤ) (accepted : ℕ) where
   same_kind_is (kinds.Fixed m) kinds.Int e = absurd (true≢false (sym e))
   same_kind_is (kinds.Fixed m) kinds.Bool e = absurd (true≢false (sym e))
 
-  -- One way or the other, both of this kind.
+  -- One of two paths, both of this kind.
   either_gives : (zero : Bool) (a b : Coded) (stack : List ℤ) (r q : Result Value Fault) (did : Did)
       → did ≡ (if zero then does b.piece else does a.piece) (at stack) → b.kind ≡ a.kind → Gives a.kind stack (does a.piece (at stack)) r
       → Gives b.kind stack (does b.piece (at stack)) q → Gives a.kind stack did (if not zero then r else q)

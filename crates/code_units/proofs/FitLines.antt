@@ -1,4 +1,4 @@
--- Pieces of step lines are made right, keep the stack low, and cost what the lines cost.
+-- Pieces of step lines are well-made, keep the stack low, and cost what the lines cost.
 use Rattle.std.proofs.Common.{◌≡◌, ℕ, ◌+◌, ◌*◌, ◌≤◌, true, ◌&&◌, nat_le, List, [], ◌∷◌, map, Option, Some, None, refl, sym, ap, ◌∙◌, subst, arith}
 use Rattle.std.specs.List.{sum}
 use Rattle.std.proofs.Math.Nat.{max-le, mul-le-mul_left}

@@ -1,4 +1,4 @@
--- Pieces of expressions and step lines are made right, as high as the expressions are deep, and cost what the trees cost.
+-- Pieces of expressions and step lines are well-made, as high as the expressions are deep, and cost what the trees cost.
 use Rattle.std.proofs.Common.{◌≡◌, ℕ, zero, suc, ◌+◌, ◌-◌, ◌*◌, ◌<◌, ◌≤◌, max, Bool, true, false, ◌&&◌, nat_le, List, Option, Some, None, refl, sym, ap}
 use Rattle.std.proofs.Common.{◌∙◌, subst, eq-eqb, arith}
 use Rattle.std.specs.Prelude.{⊤, if◌then◌else◌}
@@ -73,7 +73,7 @@ choice_top first second below top low one other =
     let less : suc below - 1 ≡ below = omega arith in
     max-le low (max-le (subst (λ n. top_of first n ≤ top) (sym less) one) (subst (λ n. top_of second n ≤ top) (sym less) other))
 
--- ---- Scopes whose slots are there and whose types are known
+-- ---- Scopes whose slots exist and whose types are known
 
 abbrev pub PlaceFits : Sizes → NamePlace → Type 0
 PlaceFits sizes (Slot slot) = slot < slots_of sizes

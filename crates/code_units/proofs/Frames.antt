@@ -1,4 +1,4 @@
--- The words of a component as it runs, seen by names and seen in slots.
+-- The words of a component that runs, as variables and as slots.
 use Rattle.std.specs.Prelude.{ℕ, ℤ, pos, List, [], ◌∷◌, ◌++◌}
 use Rattle.unit_tree.specs.Components.{Component, variables_of}
 use Rattle.unit_tree.specs.declared.environment.Environment.{Environment}
@@ -9,7 +9,7 @@ pub record CallWords : Type 0 where
   pub words : List ℤ
   pub accepted : ℕ
 
--- Under names they stand behind the words of the parameters.
+-- As variables, they come after the words of the parameters.
 abbrev pub environment_at : Component → ℕ → ℕ → CallWords → Environment
 environment_at component time step held = record {
   variables = variables_of component.unit;
@@ -19,6 +19,6 @@ environment_at component time step held = record {
   accepted = held.accepted;
 }
 
--- In slots the local time and the step stand behind them.
+-- As slots, they come before the local time and the step.
 abbrev pub work_at : ℕ → ℕ → List ℤ → CallWords → Work
 work_at time step stack held = record { stack = stack; slots = held.words ++ (pos time ∷ pos step ∷ []); accepted = held.accepted }

@@ -34,7 +34,7 @@ use Rattle.unit_tree.proofs.FoldLemmas.{fold-Assign, fold-If, fold-Repeat, fold-
 use Rattle.unit_vm.specs.Machine.{Did, Does, Fails, length_in_slots}
 use Rattle.unit_vm.specs.declared.instruction.Instruction.TheVariants.{Accept}
 
--- The step's length stands last.
+-- The step's length is last.
 pub step_is : (words : List ℤ) (one other : ℤ) → length_in_slots (words ++ (one ∷ other ∷ [])) ≡ other
 step_is words one other =
     let size : length (words ++ (one ∷ other ∷ [])) ≡ length words + 2 = length-append words (one ∷ other ∷ []) in
@@ -48,19 +48,19 @@ module _ (component : Component) (time step : ℕ) where
   abbrev scope : Scope
   scope = scope_of component.unit component.params
 
-  -- Work that was done from held words to others.
+  -- Work that led from some words to others.
   pub record Reaches (stack : List ℤ) (did : Did) (after : Environment) : Type 0 where
     pub held : CallWords
     pub fits : Fits component held
     pub by_names : after ≡ environment_at component time step held
     pub in_slots : did ≡ Does (work_at time step stack held)
 
-  -- What was done is the effect: it leaves its environment, or is its fault.
+  -- The work is the effect: it leaves its environment, or is its fault.
   abbrev pub Leaves : List ℤ → Did → Result Environment Fault → Type 0
   Leaves stack did (Ok after) = Reaches stack did after
   Leaves stack did (Err failed) = did ≡ Fails failed
 
-  -- Code does what lines mean, from all held words and on every stack.
+  -- Code does what lines mean, for all words and on every stack.
   abbrev pub Follows : LineCoded → Effect → Type 0
   Follows coded effect =
       coded.is_right ≡ true → (held : CallWords) → Fits component held → (stack : List ℤ)
@@ -87,7 +87,7 @@ module _ (component : Component) (time step : ℕ) where
 
   -- ---- Values
 
-  -- What a value on the stack leads to.
+  -- What follows from a value on the stack.
   value_leads : (value : Expr) (next : LineCoded) (effect : Value → Effect)
       → ((v : Value) (held : CallWords) → Fits component held → (stack : List ℤ) → next.is_right ≡ true
       → Leaves stack (does next.piece (work_at time step (v.word ∷ stack) held)) (effect v (environment_at component time step held)))

@@ -1,4 +1,4 @@
--- What names mean is what stands in their slots, and what is stored under a name is stored in its slot.
+-- The word of a name is that of its slot, and what is stored under a name is stored in its slot.
 use Rattle.std.proofs.Common.{◌≡◌, ℕ, suc, ◌+◌, ◌<◌, Bool, true, false, ℤ, pos, List, [], ◌∷◌, ◌++◌, map, length, append_assoc, Option, Some, slice_get, set}
 use Rattle.std.proofs.Common.{Result, Ok, Err, refl, sym, ap, ◌∙◌, subst, nat_lt, arith}
 use Rattle.std.specs.Prelude.{if◌then◌else◌, slice_set}
@@ -30,7 +30,7 @@ use Rattle.list_laws.proofs.Members.{at_seam}
 
 -- ---- Lists
 
--- What stands between others, told from one place further.
+-- A word between others, moved from one part to the next.
 pub further : (front words behind : List ℤ) (word : ℤ) → (front ++ (word ∷ [])) ++ (words ++ behind) ≡ front ++ ((word ∷ words) ++ behind)
 further front words behind word = append_assoc front (word ∷ []) (words ++ behind)
 
@@ -86,7 +86,7 @@ variables_are unit =
     let locals : List Variable = map (λ local. variable local.name local.ty) unit.locals in
     append_assoc (param_variables unit.params ++ states) inputs locals ∙ append_assoc (param_variables unit.params) states (inputs ++ locals)
 
--- A component with a word for each parameter, and held words, one for each slot.
+-- A component with a word for each parameter, and words, one for each slot.
 pub record Fits (component : Component) (held : CallWords) : Type 0 where
   pub params : length component.params ≡ length component.unit.params
   pub words : length held.words ≡ length (slot_variables component.unit)
@@ -147,7 +147,7 @@ found_changes : (sizes : Sizes) (told : Bool) (known : Named) (others : Option N
 found_changes sizes true known others here later front behind stack accepted count word slots one other right = one right
 found_changes sizes false known others here later front behind stack accepted count word slots one other right = other right
 
--- A change further behind.
+-- A change of a later word.
 back_to : (front behind stack : List ℤ) (accepted count : ℕ) (old : ℤ) (did : Did) (changed : Result (List ℤ) Fault)
     → Changes (front ++ (old ∷ [])) behind accepted stack count did changed
     → Changes front behind accepted stack (suc count) did (changed >>= λ words. Ok (old ∷ words))
@@ -176,7 +176,7 @@ slots_change sizes (v ∷ variables) (old ∷ words) front behind stack accepted
     (slots_change sizes variables words (front ++ (old ∷ [])) behind stack accepted (suc slot) name word others (longer front old slot is) so)))
     right
 
--- With the words of parameters in front, which are no targets.
+-- With the words of parameters before them, which are not targets.
 abbrev pub ChangesBehind : List ℤ → List ℤ → ℕ → List ℤ → ℕ → Did → Result (List ℤ) Fault → Type 0
 ChangesBehind consts behind accepted stack count did (Ok changed) =
     (words : List ℤ) × (changed ≡ consts ++ words) × (did ≡ Does (at (words ++ behind) accepted stack)) × (length words ≡ count)
@@ -226,7 +226,7 @@ constants_change sizes (param ∷ params) (first ∷ consts) known variables wor
     (constants_change sizes params consts known variables words slots behind stack accepted count name word others change so))
     right
 
--- A word that is stored under a name is stored in the slot that its code stores it in.
+-- A word that is stored under a name is stored in the slot that its code uses.
 pub stores : (component : Component) (time step : ℕ) (held : CallWords) (name : List ℕ) (word : ℤ) (stack : List ℤ) → Fits component held
     → (target_coded (scope_of component.unit component.params).sizes (named (scope_of component.unit component.params).names name)).is_right ≡ true
     → ChangesBehind component.params (pos time ∷ pos step ∷ []) held.accepted stack (length held.words)

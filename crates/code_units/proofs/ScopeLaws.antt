@@ -1,4 +1,4 @@
--- Names in slots that follow one another, list behind list.
+-- Names in slots that follow one another, list after list.
 use Rattle.std.proofs.Common.{◌≡◌, ℕ, suc, ◌+◌, ℤ, List, [], ◌∷◌, ◌++◌, map, length, append_assoc, sym, ap, ◌∙◌, arith}
 use Rattle.std.proofs.lemmas.List.{length-map}
 use Rattle.code_units.specs.Scopes.{constants, slots_from, slot_variables, scope_of}

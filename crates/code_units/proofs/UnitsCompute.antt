@@ -64,7 +64,7 @@ zeros_are : (locals : List Local) → map (λ (local : Local). pos 0) locals ≡
 zeros_are [] = refl
 zeros_are (local ∷ locals) = ap (λ rest. pos 0 ∷ rest) (zeros_are locals)
 
--- Locals are made 0 that stand between others.
+-- Locals between other words are set to 0.
 pub zeroed : (sizes : Sizes) (front old behind : List ℤ) → length front ≡ sizes.states + sizes.inputs → length old ≡ sizes.locals
     → with_locals_zero sizes (front ++ (old ++ behind)) ≡ front ++ (replicate sizes.locals (pos 0) ++ behind)
 zeroed sizes front old behind one other =

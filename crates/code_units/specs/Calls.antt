@@ -1,4 +1,4 @@
--- Calls of a component as runs of code: what a run from an entry gives of a state and of words of inputs.
+-- Calls of a component as runs of code: the result of a run from an entry, for a state and words of inputs.
 use Rattle.std.specs.Prelude.{◌≡◌, ℕ, ℤ, pos, List, [], ◌∷◌, ◌++◌, length, take, replicate, unsigned_abs, Option, Some, None, Result, Ok, Err, slice_get}
 use Rattle.fixed_words.specs.Operations.{Outcome}
 use Rattle.fixed_words.specs.declared.types.Fault.{Fault}
@@ -14,8 +14,8 @@ use Rattle.unit_vm.specs.declared.program.Sizes.{Sizes}
 abbrev pub slots_with : Sizes → List ℤ → List ℤ → ℕ → ℕ → List ℤ
 slots_with sizes state inputs time step = state ++ (inputs ++ (replicate sizes.locals (pos 0) ++ (pos time ∷ pos step ∷ [])))
 
--- What a course gives that has ended or met a fault: a word, a greatest step, or a state after a step with the accepted
--- length. A run of valid code always gives one.
+-- The result of a course that has ended or met a fault: a word, a limit, or the state after a step with the accepted length. A
+-- run of valid code always has one.
 abbrev pub word_given : Course → Option Outcome
 word_given (Ends work (Some word)) = Some (Ok word)
 word_given (Faults failed) = Some (Err failed)
@@ -31,11 +31,11 @@ moved_given states (Ends work result) = Some (Ok (record { state = take states w
 moved_given states (Faults failed) = Some (Err failed)
 moved_given states _ = None
 
--- What an output's entry gives.
+-- The result of an output's entry.
 abbrev pub output_by : Program → List ℤ → List ℤ → ℕ → Option Outcome
 output_by program state inputs number = word_given (run_of program (entry.Output number) (slots_with program.sizes state inputs 0 0))
 
--- What the entry of the greatest step gives at a local time; without one there is no limit.
+-- The result of the limit's entry at a local time. Without such an entry there is no limit.
 abbrev pub greatest_step_with : Option (List Instruction) → Program → List ℤ → List ℤ → ℕ → Option (Result (Option ℕ) Fault)
 greatest_step_with None program state inputs time = Some (Ok None)
 greatest_step_with (Some code) program state inputs time = limit_given (run_of program entry.Limit (slots_with program.sizes state inputs time 0))
@@ -43,7 +43,7 @@ greatest_step_with (Some code) program state inputs time = limit_given (run_of p
 abbrev pub greatest_step_by : Program → List ℤ → List ℤ → ℕ → Option (Result (Option ℕ) Fault)
 greatest_step_by program state inputs time = greatest_step_with program.limit program state inputs time
 
--- The meaning of a step's key: what the step's entry gives of a state and words of inputs, at a local time, by a local step.
+-- The meaning of a step's key: the result of the step's entry for a state and words of inputs, at a local time, by a local step.
 abbrev pub meaning_of : Program → List ℤ → List ℤ → ℕ → ℕ → Option (Result Moved Fault)
 meaning_of program state inputs time step = moved_given program.sizes.states (run_of program entry.Step (slots_with program.sizes state inputs time step))
 
@@ -52,8 +52,8 @@ pub record HasWordsFor (program : Program) (state inputs : List ℤ) : Type 0 wh
   pub each_state : length state ≡ program.sizes.states
   pub each_input : length inputs ≡ program.sizes.inputs
 
--- A program computes a component: its entries give what the calls of the component do, for all words of states and
--- inputs, one each, and all times and steps.
+-- A program computes a component: its entries return what the calls of the component do, for all words of states and inputs,
+-- one each, and all times and steps.
 pub record Computes (program : Program) (component : Component) : Type 0 where
   pub get : (state inputs : List ℤ) → HasWordsFor program state inputs → (number : ℕ) (output : Output) → slice_get component.unit.outputs number ≡ Some output
       → output_by program state inputs number ≡ Some (get_of component state inputs output)

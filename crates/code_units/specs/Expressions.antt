@@ -22,8 +22,8 @@ use Rattle.unit_vm.specs.declared.instruction.Instruction.TheVariants.{Push, Loa
 use Rattle.unit_vm.specs.declared.instruction.Instruction.TheVariants.{Clamp, Equal, NotEqual, Less, LessOrEqual, Greater, GreaterOrEqual, And, Or, Not}
 use Rattle.unit_vm.specs.declared.instruction.Instruction.TheVariants.{FixedMultiply, FixedDivide, ScaleUp, ScaleDown}
 
--- The code of an expression: what pushes its value, the value's kind, and whether both choices of each `if` have one
--- kind, without which no kind could be told.
+-- The code of an expression: what pushes its value, the value's kind, and whether both sides of each `if` have one kind.
+-- Without this, the kind is not defined.
 pub record Coded : Type 0 where
   pub piece : Piece
   pub kind : Kind
@@ -45,7 +45,7 @@ abbrev pub truth_code : Bool → Instruction
 truth_code true = Push (pos 1)
 truth_code false = Push (pos 0)
 
--- What is to be done with a word of the kind: `int` of a word that is whole already is the word.
+-- The instruction for a word of the kind. `int` of a whole number needs none.
 abbrev pub unary_code : UnOp → Kind → Option Instruction
 unary_code of.Neg kind = Some Negate
 unary_code of.Not kind = Some Not
@@ -61,7 +61,7 @@ unary_kind_of of.ToInt kind = kinds.Int
 unary_kind_of (of.ToFix decimals) kind = kinds.Fixed decimals
 unary_kind_of _ kind = kind
 
--- What is to be done with two words, the first of the kind.
+-- The instruction for two words, the first of the kind.
 abbrev pub binary_code : BinOp → Kind → Instruction
 binary_code by.Add kind = Add
 binary_code by.Sub kind = Subtract
@@ -93,7 +93,7 @@ binary_kind_of by.And kind = kinds.Bool
 binary_kind_of by.Or kind = kinds.Bool
 binary_kind_of _ kind = kind
 
--- A piece, with an instruction behind it where there is one.
+-- A piece, and then an instruction where there is one.
 abbrev pub and_perhaps : Piece → Option Instruction → Piece
 and_perhaps piece None = piece
 and_perhaps piece (Some instruction) = Then piece (One instruction)
@@ -126,8 +126,8 @@ choice_joined cond then_part else_part = record {
   agrees = cond.agrees && (then_part.agrees && (else_part.agrees && same_kind else_part.kind then_part.kind));
 }
 
--- One node, with the code of each part in its place. What events add has no place in what is run; it has the code of
--- the word that it is worth there.
+-- The code of one node, from the codes of its parts. An expression about events isn't in the plain form; it has the code of its
+-- word there.
 abbrev pub Coding : Type 0
 Coding = Scope → Coded
 

@@ -1,5 +1,5 @@
--- Names as the code of a unit knows them. The words of parameters are constants of the code; states, inputs and locals
--- have slots, in this order, and behind them stand the local time and the step.
+-- Names as the code of a unit knows them. The words of parameters are constants of the code. States, inputs and locals have
+-- slots, in this order. The slots of the local time and the step follow.
 use Rattle.std.specs.Prelude.{ℕ, suc, ℤ, List, [], ◌∷◌, ◌++◌, map, length, Option}
 use Rattle.std.specs.List.{find}
 use Rattle.std.specs.Str.{bytes_eq}
@@ -32,7 +32,7 @@ slot_variables unit =
 abbrev pub sizes_of : Unit → Sizes
 sizes_of unit = record { states = length unit.states; inputs = length unit.inputs; locals = length unit.locals }
 
--- What the code of a unit with these words of its parameters sees.
+-- The scope of a unit with these words of its parameters.
 abbrev pub scope_of : Unit → List ℤ → Scope
 scope_of unit params = record {
   names = constants unit.params params ++ slots_from 0 (slot_variables unit);
@@ -41,6 +41,6 @@ scope_of unit params = record {
   step = suc (length (slot_variables unit));
 }
 
--- The first of a name.
+-- The first entry of a name.
 abbrev pub named : List Named → List ℕ → Option Named
 named names name = find (λ known. bytes_eq known.name name) names

@@ -1,4 +1,4 @@
--- Code of step lines: a piece that changes slots and the accepted length, and keeps the stack as high as it was.
+-- Code of step lines: a piece that changes slots and the accepted length, and leaves the height of the stack unchanged.
 use Rattle.std.specs.Prelude.{ℕ, Bool, true, false, ◌&&◌, nat_le, List, [], ◌∷◌, map, Option, Some, None}
 use Rattle.std.specs.Option.{option_map}
 use Rattle.model_rules.specs.Limits.{depth_limit, turn_limit}
@@ -19,8 +19,8 @@ use Rattle.unit_vm.specs.declared.instruction.Instruction.TheVariants.{Store, Ac
 use Rattle.unit_vm.specs.declared.program.Sizes.{Sizes}
 use Rattle.unit_vm.specs.Instructions.{is_stored}
 
--- The code of a line, and whether the line is one that may be run: each `if` in its expressions has one kind, they are
--- in range and not too deep, its target has a slot that may be written, and it is repeated 1 to 1000 times.
+-- The code of a line, and whether the line may be run. It may where each `if` in its expressions has one kind, the expressions are in
+-- range and not too deep, its target has a slot that may be written, and it is repeated 1 to 1000 times.
 pub record LineCoded : Type 0 where
   pub piece : Piece
   pub is_right : Bool
@@ -28,7 +28,7 @@ pub record LineCoded : Type 0 where
 abbrev pub is_right_in : Scope → Expr → Bool
 is_right_in scope value = (code_of value scope).agrees && (is_ranged value && nat_le (depth_of value) depth_limit)
 
--- One after the other.
+-- No lines; and a line before others.
 abbrev pub nothing : LineCoded
 nothing = record { piece = Nothing; is_right = true }
 
@@ -39,7 +39,7 @@ abbrev pub sequence : List LineCoded → LineCoded
 sequence [] = nothing
 sequence (first ∷ others) = behind first (sequence others)
 
--- A target's slot gets the word. What has no slot gets none.
+-- The target's slot gets the word. Without a slot nothing is stored.
 abbrev pub store_code : NamePlace → Ty → Piece
 store_code (Slot slot) ty = One (Store slot ty)
 store_code (Constant word) ty = Nothing
@@ -69,7 +69,7 @@ LineCoding = Scope → LineCoded
 abbrev pub all_coded : Scope → List LineCoding → LineCoded
 all_coded scope lines = sequence (map (λ (line : LineCoding). line scope) lines)
 
--- One line, with the code of each line of its blocks in its place.
+-- The code of one line, from the codes of the lines in its blocks.
 abbrev pub node_line_code : Line-F LineCoding → LineCoding
 node_line_code (Line-F.Assign target value) scope = behind (value_coded value scope) (target_coded scope.sizes (named scope.names target))
 node_line_code (Line-F.If cond then_lines else_lines) scope =

@@ -1,4 +1,4 @@
--- The program of a unit with words of its parameters, and the units that have one which is valid.
+-- The program of a unit with words of its parameters, and which units have a valid one.
 use Rattle.std.specs.Prelude.{◌≡◌, ◌≤◌, true, ℤ, List, map, length, Option, Some, None}
 use Rattle.std.specs.List.{AllByRecursion}
 use Rattle.std.specs.Option.{option_map, IfSome}
@@ -19,14 +19,14 @@ use Rattle.unit_vm.specs.declared.instruction.Instruction.{Instruction}
 use Rattle.unit_vm.specs.declared.instruction.Instruction.TheVariants.{Give, Limit, Done}
 use Rattle.unit_vm.specs.declared.program.Program.{Program}
 
--- An output gives its value as a word of its type, and the greatest step its value.
+-- The part of an output ends with its value as a word of its type; that of the limit ends with its value.
 abbrev pub output_code : Scope → Output → List Instruction
 output_code scope output = part_code (code_of output.value scope).piece (Give output.ty)
 
 abbrev pub limit_code : Scope → Expr → List Instruction
 limit_code scope value = part_code (code_of value scope).piece Limit
 
--- A step is its lines; without lines it does nothing.
+-- The code of a step is that of its lines. Without lines it does nothing.
 abbrev pub step_piece : Scope → Option (List Line) → Piece
 step_piece scope None = Nothing
 step_piece scope (Some lines) = (lines_code lines scope).piece
@@ -43,8 +43,8 @@ program_in scope unit = record {
 abbrev pub program_of : Unit → List ℤ → Program
 program_of unit params = program_in (scope_of unit params) unit
 
--- An expression whose call may be made: each `if` in it has one kind, it is in range and not too deep, and the call does
--- not cost too much.
+-- An expression whose call may be made: each `if` in it has one kind, it is in range and not too deep, and the call does not
+-- cost too much.
 pub record IsCallable (scope : Scope) (value : Expr) : Type 0 where
   pub right : is_right_in scope value ≡ true
   pub cheap : expression_call_cost value ≤ cost_limit
@@ -54,8 +54,8 @@ pub record IsRunnable (scope : Scope) (lines : List Line) : Type 0 where
   pub right : (lines_code lines scope).is_right ≡ true
   pub cheap : step_call_cost lines ≤ cost_limit
 
--- A unit that may be compiled with words of its parameters: its numbers, types, expressions and lines are within the
--- limits, and targets are states and locals. Units of what is run of a system in range that is well-formed are such.
+-- A unit that may be compiled with words of its parameters: its numbers, types, expressions and lines are within the limits,
+-- and targets are states and locals. The units of the plain form of a system that is in range and well-formed are such.
 pub record IsCompilable (unit : Unit) (params : List ℤ) : Type 0 where
   pub one_each : length params ≡ length unit.params
   pub outputs : length unit.outputs ≤ output_limit

@@ -15,7 +15,7 @@ use std::alloc::Global;
 use unit_tree::{BinOp, Expr, UnOp, kind_of_number};
 use unit_vm::Instruction;
 
-/// Code that pushes a value of the kind.
+/// Code that pushes a value, and the value's kind.
 #[derive(Debug, Drop)]
 pub(crate) struct ValueCode {
     pub(crate) code: List<Instruction>,
@@ -23,7 +23,7 @@ pub(crate) struct ValueCode {
 }
 
 impl ValueCode {
-    /// The code alone.
+    /// Returns the code alone.
     pub(crate) fn into_code(self) -> List<Instruction>
         ensures { result ≡ self.code }
     {
@@ -50,7 +50,7 @@ fn placed(place: NamePlace) -> Instruction
     }
 }
 
-/// The code of one instruction.
+/// Returns the code of one instruction.
 fn leaf(alloc: Global, instruction: Instruction, kind: Kind) -> Result<ValueCode, NoMemory>
     ensures code { IfOk result (λ value. value.code ≡ instruction ∷ []) }
     ensures kind { IfOk result (λ value. value.kind ≡ kind) }
@@ -60,7 +60,7 @@ fn leaf(alloc: Global, instruction: Instruction, kind: Kind) -> Result<ValueCode
     Ok(ValueCode { code, kind })
 }
 
-/// What is to be done with a word of the kind.
+/// Returns the instruction of an operation on a word of the kind, where it needs one.
 fn unary_instruction(op: UnOp, kind: Kind) -> Option<Instruction>
     ensures { result ≡ unary_code op kind }
 {
@@ -92,7 +92,7 @@ fn unary_kind(op: UnOp, kind: Kind) -> Kind
     }
 }
 
-/// What is to be done with two words, the first of the kind.
+/// Returns the instruction of an operation on two words, the first of the kind.
 fn binary_instruction(op: BinOp, kind: Kind) -> Instruction
     ensures { result ≡ binary_code op kind }
 {
@@ -134,7 +134,7 @@ fn binary_kind(op: BinOp, kind: Kind) -> Kind
     }
 }
 
-/// An operation behind its operand.
+/// Returns the code of an operation: its operand, then its instruction.
 fn unary(op: UnOp, arg: ValueCode) -> Result<ValueCode, NoMemory>
     ensures code { IfOk result (λ value. value.code ≡ arg.code ++ option_to_list (unary_code op arg.kind)) }
     ensures kind { IfOk result (λ value. value.kind ≡ unary_kind_of op arg.kind) }
@@ -148,7 +148,7 @@ fn unary(op: UnOp, arg: ValueCode) -> Result<ValueCode, NoMemory>
     Ok(ValueCode { code, kind })
 }
 
-/// An operation behind its two operands.
+/// Returns the code of an operation: its two operands, then its instruction.
 fn binary(op: BinOp, left: ValueCode, right: ValueCode) -> Result<ValueCode, NoMemory>
     ensures code { IfOk result (λ value. value.code ≡ left.code ++ (right.code ++ (binary_code op left.kind ∷ []))) }
     ensures kind { IfOk result (λ value. value.kind ≡ binary_kind_of op left.kind) }
@@ -163,7 +163,7 @@ fn binary(op: BinOp, left: ValueCode, right: ValueCode) -> Result<ValueCode, NoM
     })
 }
 
-/// `clamp` behind its three operands.
+/// Returns the code of `clamp`: its three operands, then its instruction.
 fn clamp(value: ValueCode, low: ValueCode, high: ValueCode) -> Result<ValueCode, NoMemory>
     ensures code { IfOk result (λ all. all.code ≡ value.code ++ (low.code ++ (high.code ++ (Clamp ∷ [])))) }
     ensures kind { IfOk result (λ all. all.kind ≡ value.kind) }
@@ -178,7 +178,7 @@ fn clamp(value: ValueCode, low: ValueCode, high: ValueCode) -> Result<ValueCode,
     })
 }
 
-/// A choice behind its condition.
+/// Returns the code of a choice: its condition, then both sides.
 fn chosen(
     alloc: Global,
     cond: ValueCode,
@@ -196,7 +196,7 @@ fn chosen(
     })
 }
 
-/// The code of a name: its word or its slot, and 0 where it is not declared.
+/// Returns the code of a name: a push of its word or a load of its slot. A name that is not declared has the word 0.
 fn name_value(alloc: Global, scope: &Scope, name: &[u8]) -> Result<ValueCode, NoMemory>
     ensures code { IfOk result (λ value. value.code ≡ flat (name_code (named scope.now.names name.now)).piece) }
     ensures kind { IfOk result (λ value. value.kind ≡ (name_code (named scope.now.names name.now)).kind) }
@@ -207,7 +207,7 @@ fn name_value(alloc: Global, scope: &Scope, name: &[u8]) -> Result<ValueCode, No
     }
 }
 
-/// The code of an expression. What events add has the code of the word that it is worth in what is run.
+/// Returns the code of an expression. An expression about events has the code of the word that it has in the plain form.
 pub(crate) fn value_code(alloc: Global, scope: &Scope, value: &Expr) -> Result<ValueCode, NoMemory>
     ensures code { IfOk result (λ all. all.code ≡ flat (code_of value.now scope.now).piece) }
     ensures kind { IfOk result (λ all. all.kind ≡ (code_of value.now scope.now).kind) }

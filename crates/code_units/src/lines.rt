@@ -14,7 +14,7 @@ use std::alloc::Global;
 use unit_tree::{Expr, Line};
 use unit_vm::Instruction;
 
-/// Puts the instruction that stores a word in the target's slot behind code, where it has one.
+/// Appends the instruction that stores a word in the target's slot to code, where the target has one.
 fn push_store(
     code: List<Instruction>,
     scope: &Scope,
@@ -31,7 +31,7 @@ fn push_store(
     Ok(code)
 }
 
-/// The code of `accept`.
+/// Returns the code of `accept`.
 fn accept_code(alloc: Global, scope: &Scope, value: &Expr) -> Result<List<Instruction>, NoMemory>
     ensures { IfOk result (λ all. all ≡ flat (value_coded value.now scope.now).piece ++ (Accept ∷ [])) }
 {
@@ -40,7 +40,7 @@ fn accept_code(alloc: Global, scope: &Scope, value: &Expr) -> Result<List<Instru
     Ok(code)
 }
 
-/// The code of a line.
+/// Returns the code of a line.
 #[cycle(lines)]
 fn line_code(alloc: Global, scope: &Scope, line: &Line) -> Result<List<Instruction>, NoMemory>
     ensures { IfOk result (λ code. code ≡ flat (line_code line.now scope.now).piece) }
@@ -66,7 +66,7 @@ fn line_code(alloc: Global, scope: &Scope, line: &Line) -> Result<List<Instructi
     }
 }
 
-/// The code of lines in their order.
+/// Returns the code of lines in their order.
 #[cycle(lines)]
 pub(crate) fn lines_code(
     alloc: Global,

@@ -13,7 +13,7 @@ use std::alloc::Global;
 use unit_tree::{Expr, Line, Output, Unit};
 use unit_vm::{Instruction, Program};
 
-/// The code of an output's call.
+/// Returns the code of an output's call.
 fn output_code(alloc: Global, scope: &Scope, output: &Output) -> Result<List<Instruction>, NoMemory>
     ensures { IfOk result (λ code. code ≡ output_code scope.now output.now) }
 {
@@ -22,7 +22,7 @@ fn output_code(alloc: Global, scope: &Scope, output: &Output) -> Result<List<Ins
     Ok(code)
 }
 
-/// The codes of outputs, in their order.
+/// Returns the codes of outputs, in their order.
 fn output_codes(
     alloc: Global,
     scope: &Scope,
@@ -37,7 +37,7 @@ fn output_codes(
     Ok(codes)
 }
 
-/// The code of the call of the greatest step.
+/// Returns the code of the call of a `max`.
 fn limit_code(alloc: Global, scope: &Scope, value: &Expr) -> Result<List<Instruction>, NoMemory>
     ensures { IfOk result (λ code. code ≡ limit_code scope.now value.now) }
 {
@@ -46,7 +46,7 @@ fn limit_code(alloc: Global, scope: &Scope, value: &Expr) -> Result<List<Instruc
     Ok(code)
 }
 
-/// The code of a step: of its lines, if it has any, and the end.
+/// Returns the code of a step: of its lines, if it has any, and the end.
 fn step_code(
     alloc: Global,
     scope: &Scope,
@@ -62,7 +62,7 @@ fn step_code(
     Ok(code)
 }
 
-/// The parts of a unit's program.
+/// Returns the parts of a unit's program.
 fn program_in(alloc: Global, scope: &Scope, unit: &Unit) -> Result<Program, NoMemory>
     ensures { IfOk result (λ program. program ≡ program_in scope.now unit.now) }
 {
@@ -80,8 +80,8 @@ fn program_in(alloc: Global, scope: &Scope, unit: &Unit) -> Result<Program, NoMe
     })
 }
 
-/// The program of a unit with these words of its parameters: a part for each output, perhaps one for the
-/// greatest step, and one for the step.
+/// Returns the program of a unit with these words of its parameters: a part for each output, one for the limit if the unit has a
+/// `max`, and one for the step.
 pub fn program(alloc: Global, unit: &Unit, params: &[i64]) -> Result<Program, NoMemory>
     requires one_each { length params.now ≡ length unit.now.params }
     requires states { length unit.now.states ≤ 64 }

@@ -11,7 +11,7 @@ use unit_vm::Sizes;
 /// Where the word of a name is.
 #[derive(Clone, Copy, Debug)]
 pub enum NamePlace {
-    /// Nowhere but in the code: the word of a parameter.
+    /// A constant of the code: the word of a parameter.
     Constant(i64),
     /// In a slot of the frame, by its number.
     Slot(u32),
@@ -25,10 +25,10 @@ pub struct Named {
     pub place: NamePlace,
 }
 
-/// What the code of a unit sees.
+/// The names and slots that the code of a unit may use.
 #[derive(Debug, Drop)]
 pub struct Scope {
-    /// Parameters, states, inputs and locals, in this order. Of one name the first counts.
+    /// Parameters, states, inputs and locals, in this order. If some have one name, the first counts.
     pub names: List<Named>,
     /// How many slots of each kind the frame has.
     pub sizes: Sizes,
@@ -38,7 +38,7 @@ pub struct Scope {
     pub step: u32,
 }
 
-/// What has a slot of its own.
+/// A declaration that has a slot of its own.
 trait Declared {
     ghost use Rattle.std.specs.Prelude.{◌≡◌};
     ghost use Rattle.unit_tree.specs.declared.environment.Variable.{Variable};
@@ -94,7 +94,7 @@ impl Declared for Local {
     }
 }
 
-/// Puts parameters with their words behind names.
+/// Appends parameters with their words to names.
 fn push_constants(
     alloc: Global,
     names: &mut List<Named>,
@@ -115,7 +115,7 @@ fn push_constants(
     Ok(())
 }
 
-/// Puts what has slots behind names, in slots that follow one another from the first one on.
+/// Appends declarations with slots to names. The slots follow one another, beginning with the first.
 fn push_slots<T: Declared>(
     alloc: Global,
     names: &mut List<Named>,
@@ -137,7 +137,7 @@ fn push_slots<T: Declared>(
 }
 
 impl Scope {
-    /// What the code of a unit with these words of its parameters sees.
+    /// Returns the scope of a unit with these words of its parameters.
     pub fn new(alloc: Global, unit: &Unit, params: &[i64]) -> Result<Scope, NoMemory>
         requires one_each { length params.now ≡ length unit.now.params }
         requires states { length unit.now.states ≤ 64 }
@@ -165,7 +165,7 @@ impl Scope {
         })
     }
 
-    /// The first of a name.
+    /// Returns the first entry of a name, or `None` where there is none.
     pub(crate) fn named(&self, name: &[u8]) -> Option<&Named>
         ensures { option_copied result ≡ named self.now.names name.now }
     {

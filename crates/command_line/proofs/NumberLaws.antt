@@ -7,13 +7,13 @@ use Rattle.std.proofs.lemmas.Grind.{pow_more}
 use Rattle.std.proofs.lemmas.List.{drop_all, drop_more}
 use Rattle.command_line.specs.Options.{number_behind}
 
--- a number of so many digits leaves room for one more
+-- After a number of so many digits one more digit fits.
 pub leaves_room : (number index : ℕ) → number < 10 ^ index → index ≤ 18 → number < 1000000000000000000
 leaves_room number index small few =
     let top : 10 ^ index ≤ 10 ^ 18 = pow-le-pow_right (omega arith) few in
     omega (arith, small, top)
 
--- what a digit makes of the number before it
+-- The number before a digit, with this digit.
 pub digit_read : (number byte longer : ℕ) → number_behind number (byte ∷ []) ≡ Some longer → (longer ≡ 10 * number + (byte - 48)) × (byte - 48 ≤ 9)
 digit_read number byte longer is = grind (arith, nat_tests)
 
@@ -23,7 +23,7 @@ grown number index byte longer small is =
     let more = pow_more 10 index in
     omega (arith, small, read.0, read.1, more)
 
--- one digit, and then the others
+-- One digit, and then the others.
 cons : (before byte : ℕ) (bytes : List ℕ)
     → number_behind before (byte ∷ bytes) ≡ option_and_then (λ n. number_behind n bytes) (number_behind before (byte ∷ []))
 cons before byte bytes = grind (arith, nat_tests)

@@ -1,4 +1,4 @@
--- Options one behind the other.
+-- Options one after the other.
 use Rattle.std.proofs.Common.{◌≡◌, ℕ, ◌-◌, ◌≤◌, Bool, true, false, List, [], ◌∷◌, ◌++◌, append-nil, append_assoc, length, take, drop, get_or}
 use Rattle.std.proofs.Common.{Option, Some, None, refl, sym, ap, ◌∙◌, arith}
 use Rattle.std.specs.Prelude.{codes, is_none, is_some, not, string_bytes, String}
@@ -21,11 +21,11 @@ use Rattle.command_line.specs.declared.options.CommandOption.TheVariants.{Worker
 
 -- ---- How many there are of a kind
 
--- the one of a kind among options
+-- The option of a kind, among options.
 abbrev pub ones : {A : Type 0} → (CommandOption → Option A) → List CommandOption → Option (Option A)
 ones kind options = at_most_one (filter_map kind options)
 
--- and among those that stand behind others
+-- Also among those that come after others.
 abbrev behind : {A : Type 0} → Option (Option A) → Option (Option A) → Option (Option A)
 behind (Some None) before = before
 behind None before = None
@@ -54,7 +54,7 @@ reports_joined : (before more : List CommandOption)
 reports_joined before more =
     ap at_most_one (filter-append is_report before more) ∙ most_joined (filter is_report before) (filter is_report more)
 
--- two of a kind are still two with those behind them
+-- Two of a kind are still two with more after them.
 behind_two : {A : Type 0} (more : Option (Option A)) → behind more None ≡ None
 behind_two None = refl
 behind_two (Some None) = refl
@@ -68,7 +68,7 @@ none_behind (Some one) (Some None) gives then_gives none later = later one one n
 none_behind (Some None) (Some (Some other)) gives then_gives none later = later None (Some other) none
 none_behind (Some (Some one)) (Some (Some other)) gives then_gives none later = refl
 
--- what comes of a value came of one that is there
+-- The result of a function on an optional value exists only where the value does.
 taken : {A B : Type 0} (from : Option A) (gives : A → Option B) (result : B) → (from >>= gives) ≡ Some result
     → (value : A) × (from ≡ Some value) × (gives value ≡ Some result)
 taken None gives result is = absurd (cc)
@@ -76,7 +76,7 @@ taken (Some value) gives result is = (value, refl, is)
 
 -- ---- All kinds: here and below a line for each
 
--- the ones of all kinds
+-- The options of all kinds.
 pub record Ones : Type 0 where
   pub workers : Option (Option ℕ)
   pub window : Option (Option ℕ)
@@ -101,7 +101,7 @@ ones_of options = record {
   report = at_most_one (filter is_report options);
 }
 
--- and what they give
+-- What they give.
 abbrev pub each : Ones → Option Given
 each all = do
   workers ← all.workers
@@ -166,7 +166,7 @@ none_after before more is =
     none_behind before.rounds more.rounds _ _ is (λ _ _ is.
     none_behind before.report more.report _ _ is (λ _ _ is. some_given _ is)))))))))
 
--- the ones that gave so much, with the one of `--report`, of which just this is kept that it is there
+-- The options so far, with that of `--report`, which has no value.
 abbrev known_ones : Given → Option CommandOption → Ones
 known_ones given report = record {
   workers = Some given.workers;
@@ -208,7 +208,7 @@ known_by all given is =
       },
     )
 
--- the value of a kind that has none yet
+-- The value of a kind that has none yet.
 once : {A B : Type 0} (before : Option A) (value : A) (gives : Option A → B)
     → then_some (is_none before) (gives (Some value)) ≡ (behind (Some (Some value)) (Some before) >>= λ one. Some (gives one))
 once None value gives = refl
@@ -278,12 +278,12 @@ no_given : given_of [] ≡ Some no_options
 unfolding given_of
 no_given = refl
 
--- all of those that were read, behind no other
+-- All of those that were read, after no other.
 pub all_given : (read : Option (List CommandOption)) → (read >>= with_all no_options) ≡ (read >>= given_of)
 all_given None = refl
 all_given (Some options) = all_behind_given [] options no_options no_given
 
--- the first of them, and then the others
+-- The first of them, and then the others.
 first_given : (given : Given) (first : CommandOption) (found : Option Given) (read : Option (List CommandOption)) → with_one given first ≡ found
     → (found >>= λ more. read >>= with_all more) ≡ (option_map (λ rest. first ∷ rest) read >>= with_all given)
 first_given given first None None is = refl
@@ -300,7 +300,7 @@ pub report_read : (flag : List ℕ) (words : List (List ℕ)) → bytes_eq flag 
 report_read flag [] test = sym (cond-true (bytes_eq flag (codes "--report")) _ _ test)
 report_read flag (word ∷ words) test = sym (cond-true (bytes_eq flag (codes "--report")) _ _ test)
 
--- the words behind the first ones, as the code has them
+-- The words after the first ones, as the code has them.
 abbrev behind_words : ℕ → List (String Global) → List (List ℕ)
 behind_words count words = bytes_of (take (length words - count) (drop count words))
 

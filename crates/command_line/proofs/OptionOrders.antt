@@ -14,7 +14,7 @@ use Rattle.command_line.specs.declared.options.CommandOption.{CommandOption}
 use Rattle.command_line.specs.declared.options.CommandOption.TheVariants.{Report}
 use Rattle.command_line.proofs.OptionLaws.{each, ones, ones_of}
 
--- a number for a value, where there is one
+-- A number for a value, where there is one.
 abbrev weigh : {A : Type 0} → (A → ℕ) → Option A → ℕ
 weigh g None = 0
 weigh g (Some value) = g value
@@ -62,7 +62,7 @@ same_policy Hold Linear is = absurd (omega (arith, is))
 same_policy Linear Hold is = absurd (omega (arith, is))
 same_policy Linear Linear is = refl
 
--- options of `--report` are all the same, so that only their number counts
+-- Options `--report` are all equal, so only their number counts.
 report_mark : CommandOption → Option ⊤
 report_mark Report = Some tt
 report_mark _ = None

@@ -16,9 +16,9 @@ use Rattle.command_line.specs.declared.options.CommandOption.TheVariants.{Report
 use Rattle.command_line.proofs.OptionLaws.{report_read}
 use Rattle.command_line.proofs.OptionOrders.{no_order}
 
--- ---- Words behind others
+-- ---- Words after others
 
--- options with one more in front, of which others stand behind
+-- Options with one more before others.
 first_before : (first : CommandOption) (read joined tail : Option (List CommandOption)) (options : List CommandOption)
     → option_map (λ more. first ∷ more) read ≡ Some options
     → ((more : List CommandOption) → read ≡ Some more → joined ≡ option_map (λ others. more ++ others) tail)
@@ -34,7 +34,7 @@ first_before first (Some more) joined tail options is again =
     regrouped None = refl
     regrouped (Some others) = refl
 
--- two words or more, by what the first of them is
+-- Two words or more, by the first of them.
 words_before : (is_report : Bool) (first : Option CommandOption) (alone valued alone' valued' tail : Option (List CommandOption))
     (options : List CommandOption)
     → cond is_report (option_map (λ more. Report ∷ more) alone) (first >>= λ first. option_map (λ more. first ∷ more) valued) ≡ Some options
@@ -47,7 +47,7 @@ words_before false None alone valued alone' valued' tail options is alone_again 
 words_before false (Some first) alone valued alone' valued' tail options is alone_again valued_again =
     first_before first valued valued' tail options is valued_again
 
--- Words that are options, and others behind them.
+-- Words that are options, and others after them.
 part_read : (part rest : List (List ℕ)) (options : List CommandOption) → options_of part ≡ Some options
     → options_of (part ++ rest) ≡ option_map (λ others. options ++ others) (options_of rest)
 part_read [] rest options is =
@@ -63,7 +63,7 @@ part_read (flag ∷ word ∷ words) rest options is =
 
 -- ---- Parts
 
--- the option of words that are one
+-- The option of words that are one.
 abbrev first_said : Option (List CommandOption) → CommandOption
 first_said (Some (option ∷ rest)) = option
 first_said _ = Report

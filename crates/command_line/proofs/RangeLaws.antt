@@ -1,4 +1,4 @@
--- The numbers of a command that words are of are in their ranges.
+-- The numbers of a command are in their ranges.
 use Rattle.std.proofs.Common.{◌≡◌, ℕ, ◌*◌, ◌≤◌, Bool, true, false, cond, List, [], ◌∷◌, Option, Some, None, refl, subst, arith}
 use Rattle.std.specs.Prelude.{◌&&◌, codes, nat_le, IfSome, ⊤}
 use Rattle.std.specs.Option.{option_map}

@@ -1,4 +1,4 @@
--- What is asked of the generator by the options of a command, and the system that it gives.
+-- What the options of a command ask of the generator, and the system that it returns.
 use Rattle.std.specs.Prelude.{ℕ, ◌*◌, Option, Some}
 use Rattle.model_rules.specs.Limits.{cell_limit, instance_limit, rows_limit}
 use Rattle.unit_tree.specs.declared.system.System.{System}
@@ -7,14 +7,14 @@ use Rattle.command_line.specs.Options.{◌>>=◌}
 use Rattle.command_line.specs.Ranges.{required_within, within}
 use Rattle.command_line.specs.declared.options.Given.{Given}
 
--- By which seed, of how many components, and for how many rows a system is generated.
+-- The seed of a generated system, its number of components, and its number of rows.
 pub record Asked : Type 0 where
   pub seed : ℕ
   pub instances : ℕ
   pub rows : ℕ
 
 -- What options ask for: any seed, 1 to 64 components and 1 to 100,000 rows, whose product is at most 1,000,000. None where one of the
--- three is left out, or not in its range.
+-- three is missing or out of its range.
 abbrev pub asked_by : Given → Option Asked
 asked_by given = do
   seed ← given.seed

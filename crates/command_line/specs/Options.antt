@@ -12,7 +12,7 @@ use Rattle.guess_board.specs.declared.guesses.Policy.TheVariants.{Hold, Linear}
 use Rattle.command_line.specs.declared.options.CommandOption.{CommandOption}
 use Rattle.command_line.specs.declared.options.CommandOption.TheVariants.{Workers, Window, Guess, Seed, Instances, Rows, Row, Rounds, Report}
 
--- What comes of the value, where there is one.
+-- The result of a function on the value, where there is one.
 infixl 10 ◌>>=◌
 abbrev pub ◌>>=◌ : {A B : Type 0} → Option A → (A → Option B) → Option B
 given >>= next = option_and_then next given
@@ -38,7 +38,7 @@ number_of_word word = if nat_le 1 (length word) && (nat_le (length word) 19 && l
 abbrev pub policy_named : List ℕ → Option Policy
 policy_named name = if bytes_eq name (codes "hold") then Some Hold else (if bytes_eq name (codes "linear") then Some Linear else None)
 
--- The option that a flag is with the word behind it; none where it is no flag, or the word no value of it.
+-- The option of a flag with the word after it. None where it is not a flag, or the word is not a value of it.
 unfoldable pub option_of : List ℕ → List ℕ → Option CommandOption
 option_of flag word =
     if bytes_eq flag (codes "--workers") then option_map Workers (number_of_word word)
@@ -51,7 +51,7 @@ option_of flag word =
     else (if bytes_eq flag (codes "--rounds") then option_map Rounds (number_of_word word)
     else None)))))))
 
--- Words as options: `--report` stands alone, any other flag has its value in the next word. None where some word is of no option.
+-- Words as options: `--report` is alone, and any other flag has its value in the next word. None where some word is not of an option.
 abbrev pub options_of : List (List ℕ) → Option (List CommandOption)
 options_of [] = Some []
 options_of (flag ∷ []) = if bytes_eq flag (codes "--report") then Some (Report ∷ []) else None
@@ -94,18 +94,18 @@ abbrev pub rounds_in : CommandOption → Option ℕ
 rounds_in (Rounds number) = Some number
 rounds_in _ = None
 
--- One that has no value is there or not.
+-- Whether the option without a value is given.
 abbrev pub is_report : CommandOption → Bool
 is_report Report = true
 is_report _ = false
 
--- The one of these, or that there is none. Where there are more, nothing.
+-- The one of these, or that there is none. Nothing where there are more.
 abbrev pub at_most_one : {A : Type 0} → List A → Option (Option A)
 at_most_one [] = Some None
 at_most_one (one ∷ []) = Some (Some one)
 at_most_one (one ∷ other ∷ rest) = None
 
--- What options give: of each kind the one value that there is, or that there is none. Nothing, where there are two of a kind.
+-- What options give: of each kind the one value that there is, or that there is none. Nothing where there are two of a kind.
 unfoldable pub given_of : List CommandOption → Option Given
 given_of options = do
   workers ← at_most_one (filter_map workers_in options)
@@ -129,17 +129,17 @@ given_of options = do
     report = is_some report;
   })
 
--- What words give; nothing, where they are no options, or two of them are of a kind.
+-- What words give. Nothing where they are not options, or two of them are of a kind.
 abbrev pub given_by : List (List ℕ) → Option Given
 given_by words = options_of words >>= given_of
 
--- ---- What the reader has so far, which need not be believed
+-- ---- The options read so far. No promise depends on these definitions
 
--- The number that digits are written for, the digits before them counting first.
+-- The number that digits spell after the digits of another number.
 abbrev pub number_behind : ℕ → List ℕ → Option ℕ
 number_behind before word = if list_all is_digit word then Some (number_from before word) else None
 
--- What is given with one option more; nothing, where one of its kind was given before.
+-- The options with one more. Nothing where one of its kind was given before.
 abbrev pub with_one : Given → CommandOption → Option Given
 with_one given (Workers number) = then_some (is_none given.workers) (record given { workers = Some number })
 with_one given (Window number) = then_some (is_none given.window) (record given { window = Some number })

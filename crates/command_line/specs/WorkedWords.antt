@@ -21,7 +21,7 @@ all_options = record {
   report = true;
 }
 
--- A number has one to nineteen digits, and nothing else.
+-- A number has one to nineteen digits, and no other bytes.
 pub record NumbersAreWorked : Type 0 where
   pub leading_zeros : number_of_word (codes "0016") ≡ Some 16
   pub nineteen : number_of_word (codes "9999999999999999999") ≡ Some 9999999999999999999
@@ -30,7 +30,7 @@ pub record NumbersAreWorked : Type 0 where
   pub signed : number_of_word (codes "+1") ≡ None
   pub behind : number_of_word (codes "1 ") ≡ None
 
--- A range has both of its ends and nothing beyond them, whether its number is given or a default's.
+-- A range includes both of its ends and nothing beyond them, for a given number or a default.
 pub record RangesAreWorked : Type 0 where
   pub below : within 1 16 0 ≡ None
   pub least : within 1 16 1 ≡ Some 1
@@ -45,7 +45,7 @@ pub record RangesAreWorked : Type 0 where
   pub given_beyond : within_or 0 16 4 (Some 17) ≡ None
   pub default : within_or 0 16 4 None ≡ Some 4
 
--- Options stand in any order, each at most once, and have their values.
+-- Options come in any order, each at most once, and have their values.
 pub record OptionsAreWorked : Type 0 where
   pub none : given_by [] ≡ Some no_options
   pub all : given_by
@@ -74,7 +74,7 @@ pub record OptionsAreWorked : Type 0 where
 abbrev asking : List ℕ → List ℕ → List ℕ → List (List ℕ)
 asking seed instances rows = codes "--seed" ∷ seed ∷ codes "--instances" ∷ instances ∷ codes "--rows" ∷ rows ∷ []
 
--- Each command has its word, with the options that it takes, and other words are of none.
+-- Each command has its word, with the options that it takes. Other words are of no command.
 pub record CommandsAreWorked : Type 0 where
   pub run : command_of (codes "run" ∷ []) ≡ Some (Run (record { workers = 0; window = 4; guess = Hold; report = false }))
   pub run_crew : command_of

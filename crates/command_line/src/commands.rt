@@ -1,4 +1,4 @@
-//! Commands, and the words that they are asked for by.
+//! Commands, and their words.
 ghost use Rattle.std.specs.Prelude.{◌≡◌};
 ghost use Rattle.command_line.specs.Commands.{KeepsRanges, command_of, command_with, generation_of, has_workers, input_of, without_options};
 ghost use Rattle.command_line.specs.Words.{bytes_of};
@@ -15,45 +15,45 @@ use model_rules::LONGEST_TEXT;
 /// A command of the program, with its options.
 #[derive(Clone, Copy, Debug, PartialEq, Eq)]
 pub enum Command {
-    /// Puts the trace of the text's system.
+    /// Writes the trace of the text's system.
     Run(Running),
-    /// Tells that the text keeps all rules.
+    /// Answers whether the text keeps all rules.
     Check,
-    /// Puts the canonical text of the text's system.
+    /// Writes the canonical text of the text's system.
     Print,
-    /// Puts the canonical text of the text's system in version 2 of the language.
+    /// Writes the canonical text of the text's system in version 2 of the language.
     Upgrade,
-    /// Puts the trace of the text's system, by a world whose workers do what a seed draws.
+    /// Writes the trace of the text's system, from a world in which a seed draws the events of the workers.
     Replay(Replaying),
-    /// Puts the canonical text of a generated system.
+    /// Writes the canonical text of a generated system.
     Gen(Generation),
-    /// Runs a generated system, and puts figures of its trace.
+    /// Runs a generated system, and writes figures of its trace.
     Bench(Generation),
-    /// Puts the saved text of a position of the text's trace.
+    /// Writes the saved text of a position of the text's trace.
     Save(Saving),
-    /// Puts the rows of a run that goes on from the position that the text saves.
+    /// Writes the rows of a run that continues from the position that the text saves.
     Resume,
-    /// Tells whether the table behind the text is the trace of the text's system.
+    /// Answers whether the table after the text is the trace of the text's system.
     Verify,
-    /// Puts the canonical text of a system that has the words of a table at its times.
+    /// Writes the canonical text of a system that has the words of a table at its times.
     Stimulus,
-    /// Puts the canonical text of the system that a nested text becomes, whose groups are made flat.
+    /// Writes the canonical text of the flat system of a nested text.
     Flatten,
-    /// Puts the rows that the first of two nodes commits, which tell each other facts over a link that loses some of them.
+    /// Writes the rows that the first of two nodes commits. The nodes exchange facts over a link that loses some of them.
     Nodes(Splitting),
 }
 
-/// The most bytes that `resume` reads.
+/// The greatest number of bytes that `resume` reads.
 const LONGEST_SAVED: usize = 2_097_152;
 
-/// The most bytes that `verify` reads.
+/// The greatest number of bytes that `verify` reads.
 const LONGEST_VERIFIED: usize = 67_108_864;
 
-/// The most bytes that `stimulus` reads.
+/// The greatest number of bytes that `stimulus` reads.
 const LONGEST_STIMULUS: usize = 1_048_576;
 
 impl Command {
-    /// How many bytes it reads at most; none where it reads nothing.
+    /// Returns the greatest number of bytes that it reads, or `None` where it reads nothing.
     pub fn input(&self) -> Option<usize>
         ensures input { result ≡ input_of self.now }
         ensures ranges { KeepsRanges self.now }
@@ -72,14 +72,14 @@ impl Command {
             Command::Stimulus => Some(LONGEST_STIMULUS),
             Command::Gen(_) => None,
             Command::Bench(asked) => {
-                // That its numbers are in their ranges is known by the clauses of this call alone.
+                // Called for its clauses, which state that its numbers are in their ranges.
                 let _ = asked.instances();
                 None
             }
         }
     }
 
-    /// Whether it is run with workers.
+    /// Returns whether it is run with workers.
     pub fn has_workers(&self) -> bool
         ensures { result ≡ has_workers self.now }
     {
@@ -91,15 +91,15 @@ impl Command {
     }
 }
 
-/// A command where no option was given; none where one was. Of a command that takes some, `given` is what is left without these,
-/// so that its row names no other option.
+/// Returns a command where no option was given, and otherwise `None`. For a command with options, `given` has the other options: those
+/// that its row doesn't name.
 pub(crate) fn without_options<T: Copy>(command: T, given: Given) -> Option<T>
     ensures { result ≡ without_options command given }
 {
     if given.is_none() { Some(command) } else { None }
 }
 
-/// What a command that generates its system asks for, which takes no other options.
+/// Returns the generated system that a command asks for, where no other options are given.
 fn generation_of(given: Given) -> Option<Generation>
     ensures { result ≡ generation_of given }
 {
@@ -112,7 +112,8 @@ fn generation_of(given: Given) -> Option<Generation>
     without_options(Generation::asked(given)?, left)
 }
 
-/// The command of a word with the options that were given: a row for each command, with the options that it takes.
+/// Returns the command of a word with the given options, or `None` where there is none. There is a row for each command, with the
+/// options that it takes.
 fn command_with(word: &str, given: Given) -> Option<Command>
     ensures { result ≡ command_with word.now given }
 {
@@ -147,7 +148,7 @@ fn command_with(word: &str, given: Given) -> Option<Command>
     }
 }
 
-/// The command that words are of; none where they have no form.
+/// Returns the command of some words, or `None` where they have no form.
 pub fn command_of(words: &[String]) -> Option<Command>
     ensures { result ≡ command_of (bytes_of words.now) }
 {
@@ -157,8 +158,8 @@ pub fn command_of(words: &[String]) -> Option<Command>
     }
 }
 
-/// A law: words that were worked out by hand are the numbers, give the options and are of the commands that they should, and a number
-/// is in a range where it was found to be.
+/// A law: by the definitions, words that were worked out by hand are the right numbers, give the right options and are of the right
+/// commands; and a number is in a range where it should be.
 pub fn words_are_worked()
     ensures numbers { NumbersAreWorked }
     ensures ranges { RangesAreWorked }

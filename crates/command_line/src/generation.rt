@@ -1,4 +1,4 @@
-//! What is asked of the generator.
+//! What a command asks of the generator.
 ghost use Rattle.std.specs.Prelude.{◌≡◌, IfOk};
 ghost use Rattle.command_line.specs.Generations.{CanGive, asked_by, system_asked};
 
@@ -17,8 +17,7 @@ type Rows = Within<1, 100_000>;
 /// Rows times components.
 type Cells = Within<1, 1_000_000>;
 
-/// The system that a command asks the generator for: by a seed, of so many components, and run for so many rows. There is always
-/// one.
+/// The system that a command asks of the generator: by a seed, of so many components, and for so many rows. There always is one.
 #[derive(Clone, Copy, Debug, PartialEq, Eq)]
 pub struct Generation {
     seed: u64,
@@ -40,7 +39,7 @@ impl Model for Generation {
 }
 
 impl Generation {
-    /// What options ask for; none where one of the three is left out, or not in its range.
+    /// Returns what options ask for, or `None` where one of the three is missing or out of its range.
     pub(crate) fn asked(given: Given) -> Option<Generation>
         ensures { result ≡ asked_by given }
     {
@@ -55,7 +54,7 @@ impl Generation {
         })
     }
 
-    /// How many components the system has.
+    /// Returns how many components the system has.
     pub fn instances(&self) -> u32
         ensures value { result ≡ self.now.instances }
         ensures given { CanGive self.now }
@@ -63,7 +62,7 @@ impl Generation {
         self.instances
     }
 
-    /// The system.
+    /// Returns the system.
     pub fn system(&self, alloc: Global) -> Result<System, NoMemory>
         ensures { IfOk result (λ system. system ≡ system_asked self.now) }
     {

@@ -1,12 +1,16 @@
-//! The words of a command line: which command they are of, and what it is asked for by its options.
+//! The words of a command line: which command they are of, and what its options ask for.
 //!
-//! [`command_of`] gives the [`Command`] of words, or tells that they have no form. A command has its numbers in their ranges
-//! ([`Within`]), so that who serves it knows these. [`words_are_worked`] has words that were worked out by hand, and
-//! [`options_have_no_order`] is the law that options may stand in any order.
+//! [`command_of`] returns the [`Command`] of words, or `None` where they have no form. A command has its numbers in their ranges
+//! ([`Within`]), so that the code that serves it knows them. [`words_are_worked`] is about words that were worked out by hand, and
+//! [`options_have_no_order`] is the law that options may come in any order.
 //!
-//! Definitions: `specs/Words.antt`, `specs/Options.antt` (words as options, and what options give), `specs/Ranges.antt`,
-//! `specs/Generations.antt` (what is asked of the generator) and `specs/Commands.antt` (which words are which command, how much it
-//! reads, and whether it has workers). `specs/Laws.antt` has the laws, and `specs/WorkedWords.antt` the worked words.
+//! Definitions:
+//!
+//! - `specs/Words.antt`, `specs/Options.antt`: words as options, and what options give
+//! - `specs/Ranges.antt`: ranges of numbers
+//! - `specs/Generations.antt`: what a command asks of the generator
+//! - `specs/Commands.antt`: which words are which command, how much it reads, and whether it has workers
+//! - `specs/Laws.antt`, `specs/WorkedWords.antt`: the laws, and the worked words
 #![tactic(auto)]
 
 mod commands;

@@ -58,7 +58,7 @@ impl Given {
         report: false,
     };
 
-    /// Whether no option was given.
+    /// Returns whether no option was given.
     pub(crate) fn is_none(self) -> bool
         ensures { result ≡ is_given_none self }
     {
@@ -73,7 +73,7 @@ impl Given {
             && !self.report
     }
 
-    /// With one option more; none where one of its kind was given before.
+    /// Returns these options with one more, or `None` where one of its kind was given before.
     fn with(self, option: CommandOption) -> Option<Given>
         ensures { result ≡ with_one self option }
     {
@@ -121,7 +121,7 @@ impl Given {
 /// The most digits that a number may have.
 const MOST_DIGITS: usize = 19;
 
-/// The number with one digit more, if the byte is one.
+/// Returns the number with one more digit, if the byte is one.
 fn with_digit(number: u64, byte: u8) -> Option<u64>
     requires { number < 1_000_000_000_000_000_000 }
     ensures { result ≡ number_behind number (byte ∷ []) }
@@ -133,7 +133,7 @@ fn with_digit(number: u64, byte: u8) -> Option<u64>
     }
 }
 
-/// The number that digits are written for, of which there may be as many as fit.
+/// Returns the number that digits spell, or `None` where a byte is not a digit. Without bytes it is 0.
 fn number_of_digits(digits: &[u8]) -> Option<u64>
     requires { length digits.now ≤ 19 }
     ensures { result ≡ number_behind 0 digits.now }
@@ -145,7 +145,7 @@ fn number_of_digits(digits: &[u8]) -> Option<u64>
     Some(number)
 }
 
-/// The number that one to nineteen digits are written for, leading zeros allowed.
+/// Returns the number that one to nineteen digits spell, or `None` for any other word. Leading zeros are allowed.
 fn number(word: &[u8]) -> Option<u64>
     ensures { result ≡ number_of_word word.now }
 {
@@ -156,7 +156,7 @@ fn number(word: &[u8]) -> Option<u64>
     }
 }
 
-/// The policy of a name.
+/// Returns the policy of a name, or `None` where there is none.
 fn policy_named(name: &str) -> Option<Policy>
     ensures { result ≡ policy_named name.now }
 {
@@ -169,7 +169,7 @@ fn policy_named(name: &str) -> Option<Policy>
     }
 }
 
-/// The option that a flag is with the word behind it; none where it is no flag, or the word no value of it.
+/// Returns the option of a flag with the word after it, or `None` where it is not a flag, or the word is not a value of it.
 #[tactic(auto, unfolding(crate::specs::Options::option_of))]
 fn option_of(flag: &str, word: &str) -> Option<CommandOption>
     ensures { result ≡ option_of flag.now word.now }
@@ -195,8 +195,8 @@ fn option_of(flag: &str, word: &str) -> Option<CommandOption>
     }
 }
 
-/// What words give behind options that gave so much; none where some word is of no option, or two options are of a kind. Each
-/// turn adds an option, and each may be there once, so there are few turns.
+/// Returns these options with those of words after them. `None` where some word is not of an option, or two options are of a kind.
+/// Each turn adds an option, and each may be there once, so there are few turns.
 fn given_behind(given: Given, words: &[String]) -> Option<Given>
     ensures { result ≡ option_and_then (with_all given) (options_of (bytes_of words.now)) }
 {
@@ -212,15 +212,14 @@ fn given_behind(given: Given, words: &[String]) -> Option<Given>
     }
 }
 
-/// The options that words give; none where some word is of no option, or two options are of a kind.
+/// Returns the options of words, or `None` where some word is not of an option, or two options are of a kind.
 pub(crate) fn given_by(words: &[String]) -> Option<Given>
     ensures { result ≡ given_by (bytes_of words.now) }
 {
     given_behind(Given::NONE, words)
 }
 
-/// A law: the order of options doesn't matter, be they told in the same words or in others. Words that are no options have no
-/// form in any order.
+/// A law: the order of options doesn't matter, in the same words or in others. Words that are not options have no form in any order.
 pub fn options_have_no_order()
     ensures parts { PartsHaveNoOrder }
     ensures options { OptionsHaveNoOrder }

@@ -1,17 +1,17 @@
-//! What the row of a command asks of the numbers that its options have: a range, that one is given, and what stands for one that
-//! is left out. Of other values the second is `?`, and the last `unwrap_or`.
+//! What the row of a command requires of the numbers of its options: a range, that one is given, and a default where one may be left
+//! out. For other values, `?` and `unwrap_or` do the last two.
 ghost use Rattle.std.specs.Prelude.{◌≡◌, ℕ, ◌*◌, ◌≤◌};
 ghost use Rattle.command_line.specs.Ranges.{required_within, within, within_or};
 
 use std::marker::Model;
 
-/// A number from `LEAST` to `GREATEST`, both among them. A command that has its numbers so knows their range wherever it uses them.
+/// A number from `LEAST` to `GREATEST`, both included. A command with such a number knows its range wherever it uses it.
 #[derive(Clone, Copy, Debug, PartialEq, Eq)]
 pub struct Within<const LEAST: u64, const GREATEST: u64> {
     number: u64,
 }
 
-// Clauses see the number.
+// Contracts see it as its number.
 impl<const LEAST: u64, const GREATEST: u64> Model for Within<LEAST, GREATEST> {
     ghost Value = { ℕ };
 
@@ -23,7 +23,7 @@ impl<const LEAST: u64, const GREATEST: u64> Model for Within<LEAST, GREATEST> {
 }
 
 impl<const LEAST: u64, const GREATEST: u64> Within<LEAST, GREATEST> {
-    /// The number; none where it is not in the range.
+    /// Returns the number, or `None` where it is not in the range.
     pub fn new(number: u64) -> Option<Self>
         ensures { result ≡ within LEAST GREATEST number }
     {
@@ -34,28 +34,28 @@ impl<const LEAST: u64, const GREATEST: u64> Within<LEAST, GREATEST> {
         }
     }
 
-    /// The product of two numbers; none where it is not in the range.
+    /// Returns the product of two numbers, or `None` where it is not in the range.
     pub fn product(one: u64, other: u64) -> Option<Self>
         ensures { result ≡ within LEAST GREATEST (one * other) }
     {
         Self::new(one.checked_mul(other)?)
     }
 
-    /// The number of an option that is required; none where it is left out, or is not in the range.
+    /// Returns the number of a required option, or `None` where it is left out or not in the range.
     pub fn required(given: Option<u64>) -> Option<Self>
         ensures { result ≡ required_within LEAST GREATEST given }
     {
         Self::new(given?)
     }
 
-    /// The number of an option that has a default, which stands for it where it is left out; none where it is not in the range.
+    /// Returns the number of an option, or its default where it is left out. `None` where the number is not in the range.
     pub fn given_or(default: u64, given: Option<u64>) -> Option<Self>
         ensures { result ≡ within_or LEAST GREATEST default given }
     {
         Self::new(given.unwrap_or(default))
     }
 
-    /// The number as it is.
+    /// Returns the number.
     pub fn get(self) -> u64
         ensures value { result ≡ self.entry }
         ensures least { LEAST ≤ result }

@@ -1,4 +1,4 @@
-//! What is asked of a replay.
+//! What the options of `replay` ask for.
 ghost use Rattle.std.specs.Prelude.{◌≡◌};
 ghost use Rattle.command_line.specs.Commands.{replaying_of};
 
@@ -6,14 +6,15 @@ use crate::commands::without_options;
 use crate::options::Given;
 use crate::running::Workers;
 
-/// By which seed a system is replayed, and with how many workers.
+/// The seed of a replay, and its number of workers.
 #[derive(Clone, Copy, Debug, PartialEq, Eq)]
 pub struct Replaying {
     pub seed: u64,
     pub workers: Workers,
 }
 
-/// What options ask of a replay; none where one of the two is left out, the workers are past their range, or another option is given.
+/// Returns what options ask of a replay, or `None` where one of the two is missing, the workers are out of their range, or another option
+/// is given.
 pub(crate) fn replaying_of(given: Given) -> Option<Replaying>
     ensures { result ≡ replaying_of given }
 {

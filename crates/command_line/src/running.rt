@@ -1,4 +1,4 @@
-//! What is asked of a run.
+//! What the options of `run` ask for.
 ghost use Rattle.std.specs.Prelude.{◌≡◌};
 ghost use Rattle.command_line.specs.Commands.{running_of};
 
@@ -20,11 +20,11 @@ pub struct Running {
     pub window: Window,
     /// How inputs are guessed.
     pub guess: Policy,
-    /// Whether a line of counts is noted behind how the run ended.
+    /// Whether a line of counts is noted after how the run ended.
     pub report: bool,
 }
 
-/// What options ask of a run; none where a number is past its range, or another option is given.
+/// Returns what options ask of a run, or `None` where a number is out of its range, or another option is given.
 pub(crate) fn running_of(given: Given) -> Option<Running>
     ensures { result ≡ running_of given }
 {

@@ -1,4 +1,4 @@
-//! What is asked of a command that saves.
+//! What the options of `save` ask for.
 ghost use Rattle.std.specs.Prelude.{◌≡◌};
 ghost use Rattle.command_line.specs.Commands.{saving_of};
 
@@ -15,7 +15,7 @@ pub struct Saving {
     pub row: RowNumber,
 }
 
-/// What options ask of a command that saves; none where the row is left out or is past its range, or another option is given.
+/// Returns what options ask of `save`, or `None` where the row is missing or out of its range, or another option is given.
 pub(crate) fn saving_of(given: Given) -> Option<Saving>
     ensures { result ≡ saving_of given }
 {

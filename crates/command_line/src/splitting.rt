@@ -1,4 +1,4 @@
-//! What is asked of two nodes.
+//! What the options of `nodes` ask for.
 ghost use Rattle.std.specs.Prelude.{◌≡◌};
 ghost use Rattle.command_line.specs.Commands.{splitting_of};
 
@@ -9,14 +9,16 @@ use crate::ranges::Within;
 /// How many rounds two nodes make.
 pub type Rounds = Within<1, 100_000>;
 
-/// By which seed facts between two nodes are lost, and for how many rounds they run.
+/// The seed by which facts between two nodes are lost, and for how many rounds the nodes run.
 #[derive(Clone, Copy, Debug, PartialEq, Eq)]
 pub struct Splitting {
     pub seed: u64,
     pub rounds: Rounds,
 }
 
-/// What options ask of two nodes; none where one of the two is left out, the rounds are not in their range, or another option is given.
+/// Returns what options ask of two nodes, or `None` where one of the two is missing, the rounds are out of their range,
+/// or another option is
+/// given.
 pub(crate) fn splitting_of(given: Given) -> Option<Splitting>
     ensures { result ≡ splitting_of given }
 {

@@ -13,10 +13,10 @@ use work_crew::Gate;
 const COUNTER: &[u8] =
     b"cosim 1\nunit Counter\nstate n : Int64 = 0\noutput y : Int64 = n\nstep\nn := n + 1\nend\nend\ninstance a : Counter\nend\nstop 3\nlongest 1\n";
 
-/// The last turn of which a gate is asked.
+/// The last turn for which a gate is called.
 const LAST_TURN: u64 = 19_999_999;
 
-/// Waits until the workers have answered, and remembers whether it was asked, and whether it waited in vain.
+/// Waits until the workers have answered, and records whether it was called, and whether it waited without success.
 #[derive(Drop)]
 struct Waits {
     asked: Cell<bool>,
@@ -42,7 +42,7 @@ impl Gate for Waits {
     }
 }
 
-/// Words as a call gets them.
+/// Returns words as a call gets them.
 fn owned(alloc: Global, words: &[&str]) -> Result<Vec<String>, Fail> {
     let mut line = Vec::new(alloc);
     for word in words {
@@ -51,7 +51,7 @@ fn owned(alloc: Global, words: &[&str]) -> Result<Vec<String>, Fail> {
     Ok(line)
 }
 
-/// What has nothing to read, and room for what is put.
+/// Returns a source of the text, and sinks with space for the output and the notes.
 fn streams(alloc: Global, text: &[u8]) -> Result<(MemSource, MemSink, MemSink), Fail> {
     let text = Vec::from_slice(alloc, text)?;
     Ok((
@@ -61,7 +61,7 @@ fn streams(alloc: Global, text: &[u8]) -> Result<(MemSource, MemSink, MemSink), 
     ))
 }
 
-/// The numbers of a line of counts.
+/// Returns the numbers of a line of counts.
 fn numbers(alloc: Global, note: &[u8]) -> Result<Vec<u64>, Fail> {
     let mut numbers = Vec::new(alloc);
     let mut number: Option<u64> = None;
@@ -112,7 +112,7 @@ fn a_call_without_a_gate_prints_the_trace(rt: HostRuntime) -> Result<(), Fail> {
     Ok(())
 }
 
-/// A window of 0 plans no step, so that workers get no ticket.
+/// With a window of 0 no step is planned, so workers get no ticket.
 #[test]
 fn the_window_of_the_words_is_used(rt: HostRuntime) -> Result<(), Fail> {
     let alloc = rt.alloc();
@@ -128,7 +128,7 @@ fn the_window_of_the_words_is_used(rt: HostRuntime) -> Result<(), Fail> {
     Ok(())
 }
 
-/// Whether a gate was asked by `bench`, if this put what it puts without workers, and no wait was in vain.
+/// Returns whether `bench` called a gate, wrote the same as without workers, and each wait had success.
 fn bench_waits<R: Threads + Wait + Copy + Send + Drop + 'static>(
     rt: R,
     alloc: Global,
@@ -153,7 +153,7 @@ fn bench_waits<R: Threads + Wait + Copy + Send + Drop + 'static>(
 
 #[test]
 fn bench_has_workers(rt: HostRuntime) -> Result<(), Fail> {
-    // Where a worker answers before it is looked for, the gate isn't asked; hardly ever so often.
+    // Where a worker answers before the run looks, the gate isn't called. It is very unlikely that this happens each time.
     for _ in 0..100 {
         if bench_waits(rt, rt.alloc())? {
             return Ok(());

@@ -1,4 +1,4 @@
--- What a run of a generated system came to, as the answer of the command.
+-- The result of a run of a generated system, as the answer of the command.
 use Rattle.std.specs.Prelude.{Vec}
 use Rattle.std.specs.declared.alloc.Global.{Global}
 use Rattle.std.proofs.Common.{◌≡◌, ℕ, List, length, Ok, Err, None, refl, inr, ap, sym, subst, ◌∙◌, arith}
@@ -48,12 +48,12 @@ never_loops asked system instance output can is (port, numbered, first) =
     (subst (λ s. IsFirstWithoutOrder s port) (plain_form_1 (system_asked asked) (version_1 asked))
     (subst (λ s. IsFirstWithoutOrder (plain_form s) port) is first))
 
--- ---- What its run comes to, where nobody keeps the rows
+-- ---- The result of its run, whose rows are dropped
 
 abbrev pub nobody : Stream
 nobody = stream None 0
 
--- it is given up for want of memory alone
+-- It is given up only for lack of memory.
 pub bench_given_up : (asked : Asked) (system : System) (why : Stopped) (text : List ℕ) → Runs system nobody nobody (Err why)
     → Makes (Answers (Bench asked) text) (Err why)
 bench_given_up asked system stopped.WriteFault text (front, rose) = absurd (omega (arith, rose))
@@ -61,12 +61,12 @@ bench_given_up asked system stopped.NoMemory text runs = tt
 bench_given_up asked system stopped.ReadFault text runs = absurd runs
 bench_given_up asked system (stopped.Refused line rule) text runs = absurd runs
 
--- the sum that it reports
+-- The sum that it reports.
 sum_is : (system : System) (rows : List Row) → sum_shown (columns_of system) rows ≡ traced_sum system rows
 unfolding traced_sum
 sum_is system rows = refl
 
--- and the figures of its report are those of the trace
+-- The figures of its report are those of the trace.
 pub bench_made : (asked : Asked) (system : System) (report : Report) (bytes : Vec ℕ Global) (text : List ℕ) → system ≡ system_asked asked
     → ReportsTrace system None None report → bytes.items ≡ figures_text asked.instances report.rows report.last report.sum
     → Makes (Answers (Bench asked) text) (Ok bytes)

@@ -1,4 +1,4 @@
--- What each command's answers keep: there is one for each text, and there are no two.
+-- What holds of each command's answers: there is exactly one for each text.
 use Rattle.std.proofs.Common.{◌≡◌, ℕ, ◌+◌, ◌<◌, ◌≤◌, ◌⊎◌, Bool, true, false, if◌then◌else◌, List, [], ◌∷◌, ◌++◌, length, Option, Some, None, Ok, refl, sym, ap}
 use Rattle.std.proofs.Common.{subst, ◌∙◌, inl, inr, arith}
 use Rattle.std.specs.Prelude.{IfSome, Vec}
@@ -71,7 +71,7 @@ bench_answer asked can =
 
 -- ---- Each command, where its numbers are in their ranges
 
--- two runs of a system answer the same
+-- Two runs of a system have the same answer.
 pub traces_same : (system : System) → IsWhole system → (one other : Answer) → TellsTrace system one → TellsTrace system other → one ≡ other
 traces_same system whole one other a b =
     let outcome = one_outcome system whole in
@@ -94,7 +94,7 @@ traces_answer = record {
   ends = λ system answer tells. is_end tells.ending answer.status (ap (λ (a : Answer). a.status) tells.is);
 }
 
--- two replays of a system answer the same
+-- Two replays of a system have the same answer.
 replays_same : (asked : Replaying) (system : System) → IsWhole system → (one other : Answer) → TellsReplay asked system one → TellsReplay asked system other
     → one ≡ other
 replays_same asked system whole one other a b =
@@ -104,13 +104,13 @@ replays_same asked system whole one other a b =
     ∙ ap (with_counts b.counts) (traces_same system whole a.run b.run a.tells b.tells)
     ∙ sym b.is
 
--- the rows of two tellings of a system are the same
+-- The rows of two answers for a system are equal.
 rows_same : (system : System) → IsWhole system → (one other : Answer) (a : TellsTrace system one) (b : TellsTrace system other) → a.rows ≡ b.rows
 rows_same system whole one other a b =
     let outcome = one_outcome system whole in
     (outcome.is_only a.rows a.last a.ending a.trace).0 ∙ sym (outcome.is_only b.rows b.last b.ending b.trace).0
 
--- reports of runs without workers have the same line
+-- Reports of runs without workers have the same line.
 lines_alone : (system : System) → IsWhole system → (rows : ℕ) (one other : Report) → CanReport 0 system rows one → CanReport 0 system rows other
     → report_text one ≡ report_text other
 lines_alone system whole rows one other a b =
@@ -135,7 +135,7 @@ lines_alone system whole rows one other a b =
       yours.lapsed,
     ) refl
 
--- of runs that are asked for alike, one without workers where it is reported of, the reports add the same
+-- For two runs with the same options, without workers where there is a report, the reports have the same lines.
 lines_same : (asked : Running) → (asked.report ≡ true → asked.workers ≡ 0) → (system : System) → IsWhole system → (rows : ℕ) (one other : Report)
     → CanReport asked.workers system rows one → CanReport asked.workers system rows other → report_lines asked one ≡ report_lines asked other
 lines_same asked settled system whole rows one other a b = by asked.report refl
@@ -147,7 +147,7 @@ lines_same asked settled system whole rows one other a b = by asked.report refl
         (lines_alone system whole rows one other (subst (λ workers. CanReport workers system rows one) (settled is) a)
         (subst (λ workers. CanReport workers system rows other) (settled is) b))
 
--- and so two such runs of a system answer the same
+-- So two such runs of a system have the same answer.
 reported_same : (asked : Running) → (asked.report ≡ true → asked.workers ≡ 0) → (system : System) → IsWhole system → (one other : Answer)
     → TellsReported asked system one → TellsReported asked system other → one ≡ other
 reported_same asked settled system whole one other a b =
@@ -159,7 +159,7 @@ reported_same asked settled system whole one other a b =
     ∙ ap (with_report asked b.report) (traces_same system whole a.trace b.trace a.tells b.tells)
     ∙ sym b.is
 
--- any two runs put the same and have one status
+-- Any two runs write the same and have one status.
 reported_agree : (asked also : Running) (system : System) → IsWhole system → (one other : Answer) → TellsReported asked system one
     → TellsReported also system other → Agree one other
 reported_agree asked also system whole one other a b =
@@ -168,7 +168,7 @@ reported_agree asked also system whole one other a b =
       ap (λ (x : Answer). x.status) a.is ∙ ap (λ (x : Answer). x.status) same ∙ sym (ap (λ (x : Answer). x.status) b.is),
     )
 
--- and note the same, each with the lines of its own report behind
+-- They also have the same notes, each with the lines of its own report after them.
 reported_noted : (asked also : Running) (system : System) → IsWhole system → (one other : Answer) → TellsReported asked system one
     → TellsReported also system other → (notes : List (List ℕ)) × IsNoted asked notes one × IsNoted also notes other
 reported_noted asked also system whole one other a b =
@@ -255,14 +255,14 @@ determined Stimulus keeps settled = determined_within stimulus_limit PlaysTable 
 determined Flatten keeps settled = flat_once
 determined (Nodes asked) keeps settled = determined_on_accepted (TellsNodes asked) (nodes_same asked)
 
--- an input that was read is no longer than a command may read
+-- An input that was read is not longer than a command may read.
 pub in_limit : (input : Option ℕ) (read : Vec ℕ Global) (text : List ℕ) → text ≡ read.items → IsInLimit input (Ok read)
     → IfSome input (λ limit. length text ≤ limit)
 in_limit None read text is within = tt
 in_limit (Some limit) read text is within =
     subst (λ (bytes : List ℕ). length bytes ≤ limit) (sym is) (subst (λ n. n ≤ limit) read.ok.0 within)
 
--- an input that is too long breaks the rule of its length
+-- An input that is too long breaks the rule of its length.
 too_long : (limit : ℕ) (text : List ℕ) → Some text_limit ≡ Some limit → limit < length text → IsRefusedAt text 1 2
 too_long limit text is long = inl (long_refused text (more (same_Some text_limit limit is) (length_le_size_of text) long))
   where
@@ -285,7 +285,7 @@ long_by Stimulus limit text is long = longer stimulus_limit limit LeavesTable te
 long_by Flatten limit text is long = inl (too_long_nest limit text is long)
 long_by (Nodes asked) limit text is long = inl (too_long limit text is long)
 
--- a command that reads nothing has the same answers for all inputs
+-- A command that reads nothing has the same answers for all inputs.
 free_by : (command : Command) → input_of command ≡ None → (one other : List ℕ) (answer : Answer) → Answers command one answer
     → Answers command other answer
 free_by (Run asked) is one other answer answers = absurd (cc)
@@ -306,7 +306,7 @@ free_by (Bench asked) is one other answer (inr serves) = inr serves
 
 -- ---- All commands
 
--- a text that is refused is answered so, and what serves any other is its answer
+-- The answer for a text that is refused is the refusal. The answers for any other text are those that serve it.
 answered : (command : Command) → KeepsRanges command → (text : List ℕ) → (answer : Answer) × Answers command text answer
 answered command keeps text = by ((lawful command keeps).judged text)
   where
@@ -395,7 +395,7 @@ agree_by None keeps text one other a b = agree_as_same one other (a ∙ sym b)
 pub answers_agree : AnswersAgree
 answers_agree words text one other a b = agree_by (command_of words) (ranges_kept words) text one other a b
 
--- ---- What a status tells
+-- ---- The consequences of a status
 
 no_refusal : status.Usage ≡ status.Refused → ⊥
 no_refusal is = cc

@@ -1,4 +1,4 @@
--- What the answers of `flatten` keep, and what the command came to, as answers of its text.
+-- What holds of the answers of `flatten`, and the result of the command, as an answer for its text.
 use Rattle.std.specs.Prelude.{Vec}
 use Rattle.std.specs.declared.alloc.Global.{Global}
 use Rattle.std.proofs.Common.{◌≡◌, ◌⊎◌, ◌<◌, ◌≤◌, ℕ, List, length, Ok, Err, Some, refl, sym, ap, subst, ◌∙◌, inl, inr, arith}
@@ -107,14 +107,14 @@ flatten_lawful = record {
   ends = λ text answer answers. subst (λ (a : Answer). IsEndOfWork a.status) (sym answers.is) tt;
 }
 
--- an input that is too long breaks the rule of its length
+-- An input that is too long breaks the rule of its length.
 pub too_long_nest : (limit : ℕ) (text : List ℕ) → Some text_limit ≡ Some limit → limit < length text → RefusesNest text 1 2
 too_long_nest limit text is long = inl (more (same_Some text_limit limit is) (length_le_size_of text) long, refl, refl)
   where
     more : text_limit ≡ limit → length text ≤ size_of text → limit < length text → text_limit < size_of text
     more is size long = omega (arith, is, size, long)
 
--- ---- What the command came to
+-- ---- The result of the command
 
 pub nest_refused : (text : List ℕ) (why : Stopped) → FindsNest text (Err why) → Makes (Answers Flatten text) (Err why)
 nest_refused text (stopped.Refused line rule) refused = inl (record { line = line; rule = rule; refused = inl refused; is = refl })

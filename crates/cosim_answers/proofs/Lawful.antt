@@ -1,4 +1,4 @@
--- What the answers of a command keep: there is one for each text, and answers of a text put the same.
+-- What holds of the answers of a command: there is one for each text, and all answers for a text write the same.
 use Rattle.std.proofs.Common.{◌≡◌, ℕ, leb, ◌<◌, ◌≤◌, ◌⊎◌, true, false, List, length, Some, refl, sym, ap, subst, ◌∙◌, inl, inr, arith}
 use Rattle.std.proofs.lemmas.Bool.Decides.{leb_tells}
 use Rattle.std.proofs.lemmas.Option.{same_Some}
@@ -10,7 +10,7 @@ use Rattle.cosim_answers.specs.Accepted.{OnAccepted, RefusesAlso}
 use Rattle.cosim_answers.specs.Limits.{AnswersWithin, RefusesWithin}
 use Rattle.cosim_answers.proofs.TraceLaws.{IsWhole, whole_of}
 
--- a number is at most a limit or above it, and not both
+-- A number is at most a limit or above it, and not both.
 pub at_most_or_above : (n limit : ℕ) → (n ≤ limit) ⊎ (limit < n)
 at_most_or_above n limit = by (leb_tells n limit)
   where
@@ -18,17 +18,17 @@ at_most_or_above n limit = by (leb_tells n limit)
     by (inl (told, most)) = inl most
     by (inr (told, above)) = inr above
 
--- ---- What a command supplies
+-- ---- What a command has to ensure
 
--- two answers put the same and have one status
+-- Two answers write the same and have one status.
 abbrev pub Agree : Answer → Answer → Type 0
 Agree one other = (one.out ≡ other.out) × (one.status ≡ other.status)
 
 pub agree_as_same : (one other : Answer) → one ≡ other → Agree one other
 agree_as_same one other same = (ap (λ (x : Answer). x.out) same, ap (λ (x : Answer). x.status) same)
 
--- by which a text is refused, and what serves it: each text is refused or served, and never both; it has one refusal at most;
--- answers for a text that is served put the same and have one status; and this is the status of an end
+-- What holds of refusals and answers: each text is refused or served, and never both. It has at most one refusal. Answers for a text that
+-- is served write the same and have one status, which is that of an end.
 pub record IsLawful (Refuses : List ℕ → ℕ → ℕ → Type 0) (Serves : List ℕ → Answer → Type 0) : Type 0 where
   pub judged : (text : List ℕ) → ((line : ℕ) × (rule : ℕ) × Refuses text line rule) ⊎ ((answer : Answer) × Serves text answer)
   pub one_refusal : (text : List ℕ) (line by other rule : ℕ) → Refuses text line by → Refuses text other rule → (line ≡ other) × (by ≡ rule)
@@ -36,19 +36,19 @@ pub record IsLawful (Refuses : List ℕ → ℕ → ℕ → Type 0) (Serves : Li
   pub agree : (text : List ℕ) (one other : Answer) → Serves text one → Serves text other → Agree one other
   pub ends : (text : List ℕ) (answer : Answer) → Serves text answer → IsEndOfWork answer.status
 
--- and a command whose answer is determined, notes and all: there are no two for a text that it serves
+-- A command whose answer, with its notes, is determined: there is only one for a text that it serves.
 abbrev pub HasNoOther : (List ℕ → Answer → Type 0) → Type 0
 HasNoOther Serves = (text : List ℕ) (one other : Answer) → Serves text one → Serves text other → one ≡ other
 
 -- ---- Commands that answer a text that keeps all rules, and refuse any other by these
 
--- of the answers for a system: there is one, any two put the same, and they have the status of an end
+-- What holds of the answers for a system: there is one, any two write the same, and they have the status of an end.
 pub record AnswersSystems (IsAnswer : System → Answer → Type 0) : Type 0 where
   pub some : (system : System) → IsWhole system → (answer : Answer) × IsAnswer system answer
   pub agree : (system : System) → IsWhole system → (one other : Answer) → IsAnswer system one → IsAnswer system other → Agree one other
   pub ends : (system : System) (answer : Answer) → IsAnswer system answer → IsEndOfWork answer.status
 
--- two answers for a text are answers for one system
+-- Two answers for a text are answers for one system.
 pub on_one_system : (IsAnswer : System → Answer → Type 0) (text : List ℕ) (one other : Answer) (a : OnAccepted IsAnswer text one)
     (b : OnAccepted IsAnswer text other) → IsAnswer b.system one
 on_one_system IsAnswer text one other a b =
@@ -77,7 +77,7 @@ pub determined_on_accepted : (IsAnswer : System → Answer → Type 0)
 determined_on_accepted IsAnswer same text one other a b =
     same b.system (whole_of text b.system b.lines b.accepted) one other (on_one_system IsAnswer text one other a b) b.is
 
--- and those whose answer for a system is one piece
+-- The same for commands whose answer for a system is one piece.
 pub lawful_piece : (piece : System → List ℕ) → IsLawful IsRefusedAt (OnAccepted (λ system answer. answer ≡ piece_answer (piece system)))
 lawful_piece piece = lawful_on_accepted (λ system answer. answer ≡ piece_answer (piece system)) (record {
   some = λ system whole. (piece_answer (piece system), refl);
@@ -90,8 +90,8 @@ determined_piece piece = determined_on_accepted (λ system answer. answer ≡ pi
 
 -- ---- Commands that have a rule of their own, which the system of an accepted text may break
 
--- of the answers for a system: there is one, or it breaks the rule, and not both; any two put the same, and they have the status of an
--- end
+-- What holds of the answers for a system: there is one, or it breaks the rule, and not both. Any two write the same, and they have the
+-- status of an end.
 pub record AnswersOrBreaks (IsAnswer : System → Answer → Type 0) (Breaks : System → Type 0) : Type 0 where
   pub some : (system : System) → IsWhole system → ((answer : Answer) × IsAnswer system answer) ⊎ Breaks system
   pub not_both : (system : System) (answer : Answer) → IsAnswer system answer → Breaks system → ⊥
@@ -137,7 +137,7 @@ lawful_with_rule IsAnswer Breaks number answers = record {
 
 -- ---- Commands that read nothing
 
--- of the answers of one: there is exactly one, with the status of an end
+-- What holds of the answers of such a command: there is exactly one, with the status of an end.
 pub record HasOneAnswer (IsAnswer : Answer → Type 0) : Type 0 where
   pub answer : Answer
   pub is : IsAnswer answer
@@ -158,7 +158,7 @@ determined_unread IsAnswer one text a b is also = one.only a is ∙ sym (one.onl
 
 -- ---- Commands whose input has a limit of their own
 
--- of the answers for inputs of any length: those longer than the limit break the rule of their length
+-- What holds of the answers for inputs of any length: those longer than the limit break the rule of their length.
 pub lawful_within : (limit : ℕ) (Refuses : List ℕ → ℕ → ℕ → Type 0) (Serves : List ℕ → Answer → Type 0) → IsLawful Refuses Serves
     → IsLawful (RefusesWithin limit Refuses) (AnswersWithin limit Serves)
 lawful_within limit Refuses Serves law = record {
@@ -196,7 +196,7 @@ lawful_within limit Refuses Serves law = record {
 pub determined_within : (limit : ℕ) (Serves : List ℕ → Answer → Type 0) → HasNoOther Serves → HasNoOther (AnswersWithin limit Serves)
 determined_within limit Serves same text one other a b = same text one other a.serves b.serves
 
--- an input that is longer than the limit
+-- An input that is longer than the limit.
 pub longer : (limit most : ℕ) (Refuses : List ℕ → ℕ → ℕ → Type 0) (text : List ℕ) → Some limit ≡ Some most → most < length text
     → RefusesWithin limit Refuses text 1 2
 longer limit most Refuses text is long =

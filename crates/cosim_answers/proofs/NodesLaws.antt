@@ -1,4 +1,4 @@
--- What the answers of `nodes` keep, and what the command came to, as answers of its text.
+-- What holds of the answers of `nodes`, and the result of the command, as an answer for its text.
 use Rattle.std.specs.Io.KnownBytes.{Appends}
 use Rattle.std.proofs.Common.{◌≡◌, ◌⊎◌, ◌+◌, ◌<◌, ◌≤◌, ℕ, List, [], ◌∷◌, ◌++◌, map, length, Option, Some, None, Result, Ok, Err, refl, sym, ap, subst, ◌∙◌, inl, inr}
 use Rattle.std.proofs.Common.{arith, length-append}
@@ -52,7 +52,7 @@ as_many (member ∷ members) =
     ∙ ap (λ n. length (outputs_in member) + n) (as_many members)
     ∙ sym (length-append (outputs_in member) (flat_map outputs_in members))
 
--- there are as many routes as outputs
+-- There are as many routes as outputs.
 pub outputs_counted : (run : Composition) → length (routes_of run).outputs ≡ length (outputs_run run)
 outputs_counted run = count_is run ∙ as_many run.members
 
@@ -93,14 +93,14 @@ nodes_answer_systems asked = record {
         )
     by system whole (inr large) = inr large
 
--- ---- What the command came to
+-- ---- The result of the command
 
 }
 
 abbrev Owes : Splitting → List ℕ → Stream → Stream → Result Served Stopped → Type 0
 Owes asked text = Serves (Answers (Nodes asked) text)
 
--- a text that is not run
+-- A text that is not run.
 pub nodes_stop : (asked : Splitting) (text : List ℕ) (out : Stream) (why : Stopped) → IsUnaccepted text why → Owes asked text out out (Err why)
 nodes_stop asked text out (stopped.Refused line rule) refused = (inl (record { line = line; rule = rule; refused = inl refused; is = refl }), refl)
 nodes_stop asked text out stopped.NoMemory refused = (inl refl, refl)
@@ -111,7 +111,7 @@ module _ (asked : Splitting) (text : List ℕ) (plan : Planned) (accepted : IsAc
   composed : plan.run ≡ run_of plan.system
   composed = ap (λ (p : Planned). p.run) whole
 
-  -- a system that is too large
+  -- A system that is too large.
   pub too_large_refused : (out : Stream) → nodes_limit < size_for_nodes plan.run → Owes asked text out out (Err (stopped.Refused 1 34))
   too_large_refused out large = (
     inl (record {
@@ -131,7 +131,7 @@ module _ (asked : Splitting) (text : List ℕ) (plan : Planned) (accepted : IsAc
   )
 
   module _ (fits : size_for_nodes plan.run ≤ nodes_limit) where
-    -- the answer by these stands
+    -- The answer by these stands.
     by_stands : (stands : List Stand) (ending : Ending) → IsTrace (run_of plan.system) stands ending
         → Answers (Nodes asked) text (nodes_answer plan.system (pair_after (run_of plan.system) asked.seed asked.rounds) stands)
     by_stands stands ending trace =
@@ -165,7 +165,7 @@ module _ (asked : Splitting) (text : List ℕ) (plan : Planned) (accepted : IsAc
               (subst (λ run. IsTrace run trace.stands trace.ending) (sym composed) trace.is_trace)),
         )
 
-    -- rounds that were given up
+    -- Rounds that were given up.
     pub rounds_given_up : (out out' : Stream) (why : Stopped) → RunsNodes plan asked out out' (Err why) → Owes asked text out out' (Err why)
     rounds_given_up out out' stopped.WriteFault (begins, rose) = (begins_answer out out' begins, rose)
     rounds_given_up out out' stopped.NoMemory (begins, same) = (begins_answer out out' begins, same)
@@ -185,7 +185,7 @@ module _ (asked : Splitting) (text : List ℕ) (plan : Planned) (accepted : IsAc
       told_is : nodes ≡ told_of (pair_after (run_of plan.system) asked.seed asked.rounds)
       told_is = shows.told ∙ ap (λ run. told_of (pair_after run asked.seed asked.rounds)) composed
 
-    -- rounds that were made, and are told
+    -- Rounds that were made, and are reported.
     pub rounds_told : (out out' : Stream) (nodes : Told) (came : Result Served Stopped) → RunsNodes plan asked out out' (Ok nodes)
         → TellsRounds plan.system nodes came → Owes asked text out out' came
     rounds_told out out' nodes (Ok served) (shows, same) (status_is, notes_is) =

@@ -49,7 +49,7 @@ events_name (first ∷ events) (suc zero) = refl
 events_name (first ∷ events) (suc (suc behind)) =
     events_name events behind ∙ ap (λ half. event_name (slice_get (first ∷ events) half)) (sym (halved behind))
 
--- Behind the plain outputs stand two for each event output.
+-- After the plain outputs come two for each event output.
 pub name_behind : (outputs : List Output) (events : List EventOut) (number behind : ℕ) → number ≡ length outputs + behind
     → name_at outputs events number ≡ event_name (slice_get events (behind / 2))
 name_behind [] events number behind is = ap (name_at [] events) (is ∙ (omega arith)) ∙ events_name events behind
@@ -88,7 +88,7 @@ module _ (system : System) where
   shapes_among (instance ∷ instances) (suc number) all =
       sym (first_by instance instances (unit_of_instance system instance) number refl all.0 (shapes_among instances number all.1))
 
--- Of a judged system the members are those of its instances, so that the end is told of the same output.
+-- The members of a judged system are those of its instances, so the end is that of the same output.
 pub ends_alike : (system : System) → IsWhole system → (ending : Ending) → source_end system ending ≡ read_end system ending
 ends_alike system whole Completed = refl
 ends_alike system whole RowBudget = refl

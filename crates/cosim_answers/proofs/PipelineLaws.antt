@@ -1,4 +1,4 @@
--- What a command answers to what another one printed.
+-- The answers of a command to what another one printed.
 use Rattle.std.proofs.Common.{◌≡◌, ℕ, ◌≤◌, ◌==◌, Bool, true, false, if◌then◌else◌, List, [], ◌∷◌, ◌++◌, length, map, take, drop, append_assoc, append-nil}
 use Rattle.std.proofs.Common.{take-append-drop, is_some, refl, sym, ap, subst, ◌∙◌, inl, inr}
 use Rattle.std.proofs.lemmas.List.Concat.{flat_map-append}
@@ -68,7 +68,7 @@ use Rattle.unit_upgrade.specs.Upgrades.{in_version_2, upgraded}
 
 -- ---- What is printed is accepted
 
--- the canonical text of a printable system that keeps all rules is accepted as the system
+-- The canonical text of a printable system that keeps all rules is accepted as the system.
 printed_accepted : (system : System) → IsPrintable system → IsWellFormed system → HasNoCycle system
     → (lines : List ℕ) × IsAcceptedAs (printed_text system) system lines
 unfolding printed_text
@@ -80,7 +80,7 @@ printed_accepted system printable kept ordered =
 
 -- ---- Runs of an accepted text
 
--- a run of a text that is accepted as a system tells the system's trace
+-- The answer of a run of a text that is accepted as a system has the system's trace.
 run_tells : (asked : Running) (text : List ℕ) (system : System) (lines : List ℕ) → IsAcceptedAs text system lines → (run : Answer)
     → Answers (Run asked) text run → TellsReported asked system run
 run_tells asked text system lines accepted run (inl refusal) =
@@ -89,14 +89,14 @@ run_tells asked text system lines accepted run (inr runs) =
     subst (λ (s : System). TellsReported asked s run)
     ((judged_once text).one_system runs.system system runs.lines lines runs.accepted accepted).0 runs.is
 
--- of a printed system
+-- The same for a printed system.
 printed_run : (asked : Running) (system : System) → IsPrintable system → IsWellFormed system → HasNoCycle system → (out : List ℕ) → out ≡ printed_text system
     → (run : Answer) → Answers (Run asked) out run → TellsReported asked system run
 printed_run asked system printable kept ordered out is run answers =
     let accepted = printed_accepted system printable kept ordered in
     run_tells asked (printed_text system) system accepted.0 accepted.1 run (subst (λ bytes. Answers (Run asked) bytes run) is answers)
 
--- what a run prints and how it ends, by any telling of the trace
+-- What a run prints and how it ends, by any trace of the system.
 by_trace : (asked : Running) (system : System) → IsWhole system → (run : Answer) → TellsReported asked system run → (trace : Answer) → TellsTrace system trace
     → (run.out ≡ trace.out) × (run.status ≡ trace.status)
 by_trace asked system whole run tells trace other =
@@ -105,7 +105,7 @@ by_trace asked system whole run tells trace other =
       ap (λ (a : Answer). a.status) tells.is ∙ ap (λ (a : Answer). a.status) same,
     )
 
--- and by the trace of what is run
+-- Also by the trace of the plain form.
 by_rows : (asked : Running) (system : System) → IsWhole system → (run : Answer) → TellsReported asked system run → (rows : List Row) (last : Point) (ending : Ending)
     → IsTraceOf system rows last ending → (run.out ≡ header_of system ++ lines_of system rows) × (run.status ≡ status_of (read_end system ending))
 by_rows asked system whole run tells rows last ending trace =
@@ -139,7 +139,7 @@ prints_run_alike asked also text printed run other of on_text on_printed =
     (ap (λ (x : Answer). x.out) of.is) other on_printed in
     alike asked also of.system whole run other mine of.system yours yours.tells
 
--- the answer to a trace is the same for an upgraded system
+-- The answer for a trace is the same for an upgraded system.
 same_answer : (system : System) (rows : List EventRow) (last : Point) (ending : Ending)
     → run_answer (upgraded system) rows last ending ≡ run_answer system rows last ending
 unfolding traced_text traced_notes
@@ -158,7 +158,7 @@ upgraded_tells system trace tells = record {
   is = tells.is ∙ same_answer system tells.rows tells.last tells.ending;
 }
 
--- an upgraded system whose text is short enough is printable
+-- An upgraded system whose text is short enough is printable.
 short_printable : (system : System) → IsPrintable system → IsWellFormed system → length (printed_text (upgraded system)) ≤ text_limit
     → IsPrintable (upgraded system)
 unfolding printed_text
@@ -177,7 +177,7 @@ upgrades_run_alike asked also text made run other of on_text on_made =
 
 -- ---- `run | verify`
 
--- the verdict on records beside themselves
+-- The verdict on records and the same records.
 verdict_self : (records : List Fields) → verdict_of records records ≡ Yes
 verdict_self records = by (verdict_of records records) (verdict_right records records)
   where
@@ -224,7 +224,7 @@ runs_are_verified asked text input run verdict runs parted short (inr serves) =
 
 -- ---- `flatten | run`
 
--- the trace of a flat system is that of the nest
+-- The trace of a flat system is that of the nest.
 nested : (text : List ℕ) (nest : Nest) (system : System) (lines : List ℕ) → IsNestOf text nest → ((line rule : ℕ) → BreaksNest nest line rule → ⊥)
     → IsAcceptedAs (printed_text (flat_of nest)) system lines → (rows : List EventRow) (last : Point) (ending : Ending)
     → IsEventTraceOf system rows last ending → IsNestTraceOf nest rows last ending
@@ -291,7 +291,7 @@ generated_runs_have_figures given asked made figures run can generated benched a
 
 -- ---- `nodes` and `run`
 
--- the rows of the first stands come first
+-- The rows of the first stands come first.
 committed_first : (run : Composition) (node : Progress) (stands : List Stand)
     → (rest : List Row) × (rows_of run stands ≡ rows_of run (committed node stands) ++ rest)
 committed_first run node stands = by (is_some node.ended)

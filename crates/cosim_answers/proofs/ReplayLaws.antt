@@ -1,4 +1,4 @@
--- What a replay has put and come to, as the answer of its text.
+-- The output and the result of a replay, as the answer for its text.
 use Rattle.std.proofs.Common.{◌≡◌, ◌∙◌, ℕ, List, Result, Ok, Err, refl, sym, ap, subst, inl, inr, [], ◌∷◌, ◌++◌}
 use Rattle.std.specs.Io.KnownBytes.{Appends}
 use Rattle.cosim_call.specs.Calls.{Stream}
@@ -40,7 +40,7 @@ pub counts_there : (asked : Replaying) (system : System) → IsWhole system
     → (counts : Counts) × IsReplayed (planned system) asked.seed asked.workers counts
 counts_there asked system whole = every_seed_lem (planned system) asked.seed asked.workers (can_replay_of system whole)
 
--- what is run of a plan that was replayed is that of its system
+-- The run of a plan that was replayed is that of the plain form of its system.
 plan_is : (plan : Planned) (seed workers : ℕ) (counts : Counts) → IsReplayed plan seed workers counts → plan ≡ planned plan.system
 plan_is plan seed workers counts replayed =
     let same : replayed.replay.opened.run.plan ≡ plan = ap (λ (r : RunState). r.plan) replayed.replay.is_opened.run.is in
@@ -53,7 +53,7 @@ of_system : (asked : Replaying) (plan : Planned) (counts : Counts) → IsReplaye
 of_system asked plan counts replayed =
     subst (λ (p : Planned). IsReplayed p asked.seed asked.workers counts) (plan_is plan asked.seed asked.workers counts replayed) replayed
 
--- there is an answer for the text of which this is a trace
+-- There is an answer for a text with this trace.
 replay_answers : (asked : Replaying) (text : List ℕ) (system : System) → IsAccepted text system → (rows : List Row) (last : Point) (ending : Ending)
     → IsTraceOf system rows last ending → (counts : Counts) → IsReplayed (planned system) asked.seed asked.workers counts
     → Answers (Replay asked) text (with_counts counts (run_answer system (read_rows system rows) last (read_end system ending)))
@@ -71,9 +71,9 @@ replay_answers asked text system (lines, accepted) rows last ending trace counts
       };
     })
 
--- ---- What a replay comes to
+-- ---- The result of a replay
 
--- a text that is not replayed
+-- A text that is not replayed.
 pub replay_stops : (asked : Replaying) (text : List ℕ) (out : Stream) (why : Stopped) → IsUnaccepted text why
     → Serves (Answers (Replay asked) text) out out (Err why)
 replay_stops asked text out (stopped.Refused line rule) refused = (inl (record { line = line; rule = rule; refused = refused; is = refl }), refl)
@@ -81,7 +81,7 @@ replay_stops asked text out stopped.NoMemory refused = (inl refl, refl)
 replay_stops asked text out stopped.ReadFault refused = absurd refused
 replay_stops asked text out stopped.WriteFault refused = absurd refused
 
--- what was put begins the text of a trace that is there
+-- What was written is a prefix of the text of a trace that exists.
 begins_answer : (asked : Replaying) (text : List ℕ) (system : System) → IsAccepted text system → (out out' : Stream)
     → PutsFront system out.bytes out'.bytes → Begins (Answers (Replay asked) text) out out'
 begins_answer asked text system accepted out out' front =
@@ -95,7 +95,7 @@ begins_answer asked text system accepted out out' front =
           (front.begins one.rows one.last one.ending one.is_trace),
     )
 
--- a replay that was given up
+-- A replay that was given up.
 pub replay_given_up : (asked : Replaying) (text : List ℕ) (plan : Planned) → IsAccepted text plan.system → (out out' : Stream) (why : Stopped)
     → Replays plan asked out out' (Err why) → Serves (Answers (Replay asked) text) out out' (Err why)
 replay_given_up asked text plan accepted out out' stopped.WriteFault (front, rose) = (begins_answer asked text plan.system accepted out out' front, rose)
@@ -103,7 +103,7 @@ replay_given_up asked text plan accepted out out' stopped.NoMemory (front, same)
 replay_given_up asked text plan accepted out out' stopped.ReadFault replays = absurd replays
 replay_given_up asked text plan accepted out out' (stopped.Refused line rule) replays = absurd replays
 
--- a replay that came to its end, and is told
+-- A replay that came to its end, and is reported.
 pub replay_told : (asked : Replaying) (text : List ℕ) (plan : Planned) → IsAccepted text plan.system → (out out' : Stream) (counts : Counts)
     (came : Result Served Stopped) → Replays plan asked out out' (Ok counts) → TellsReplayed plan.system counts came
     → Serves (Answers (Replay asked) text) out out' came

@@ -1,4 +1,4 @@
--- What `save` and `resume` came to, as the answers of their text.
+-- The results of `save` and `resume`, as the answers for their text.
 use Rattle.std.specs.Io.KnownBytes.{Appends}
 use Rattle.std.specs.Prelude.{Vec}
 use Rattle.std.specs.declared.alloc.Global.{Global}
@@ -33,7 +33,7 @@ use Rattle.cosim_answers.proofs.MakingLaws.{made}
 use Rattle.cosim_answers.proofs.SavedLaws.{rest_there}
 use Rattle.cosim_answers.proofs.TraceLaws.{IsWhole, is_end, whole_of}
 
--- ---- What `resume` came to
+-- ---- The result of `resume`
 
 abbrev Owes : List ℕ → Stream → Stream → Result Served Stopped → Type 0
 Owes text = Serves (Answers Resume text)
@@ -41,7 +41,7 @@ Owes text = Serves (Answers Resume text)
 refused_by : (text : List ℕ) (out : Stream) (line rule : ℕ) → ResumeRefuses text line rule → Owes text out out (Err (stopped.Refused line rule))
 refused_by text out line rule refused = (inl (record { line = line; rule = rule; refused = refused; is = refl }), refl)
 
--- a text that saves no position
+-- A text that saves no position.
 pub saves_no_position : (text : List ℕ) (out : Stream) (why : Stopped) → length text ≤ saved_limit → FindsSaved text (Err why)
     → Owes text out out (Err why)
 saves_no_position text out (stopped.Refused line rule) within (breaks, is) =
@@ -50,7 +50,7 @@ saves_no_position text out stopped.NoMemory within found = (inl refl, refl)
 saves_no_position text out stopped.ReadFault within found = absurd found
 saves_no_position text out stopped.WriteFault within found = absurd found
 
--- whose system is refused
+-- A text whose system is refused.
 pub refuses_behind : (text : List ℕ) (saved : Saved) (out : Stream) (why : Stopped) → length text ≤ saved_limit → IsSaved text saved
     → IsRefusedBehind text saved why → Owes text out out (Err why)
 refuses_behind text saved out (stopped.Refused line rule) within saves (behind, refused, is) =
@@ -68,7 +68,7 @@ module _ (text : List ℕ) (saved : Saved) (plan : Planned) (within : length tex
   is_whole : IsWhole plan.system
   is_whole = whole_of (text_behind text saved) plan.system accepted.0 accepted.1
 
-  -- which has no such position
+  -- A trace without such a position.
   pub fits_nowhere : (out : Stream) (why : Stopped) → OpensSaved plan saved (Err why) → Owes text out out (Err why)
   fits_nowhere out (stopped.Refused line rule) (at, by, none) =
       refused_by text out line rule
@@ -95,7 +95,7 @@ module _ (text : List ℕ) (saved : Saved) (plan : Planned) (within : length tex
         → GoesOnFrom plan.run r.opened stands ending
     goes_on_from stands ending goes = subst (λ run. GoesOnFrom run r.opened stands ending) (sym composed) goes
 
-    -- the answer by a rest
+    -- The answer by a rest.
     by_rest : (answer : Answer) → TellsRest plan.system r.opened answer → Answers Resume text answer
     by_rest answer tells = inr (record { saved = saved; system = plan.system; saves = in_text; at = r.opened; fits = fits; tells = tells })
 
@@ -113,14 +113,14 @@ module _ (text : List ℕ) (saved : Saved) (plan : Planned) (within : length tex
               (front.begins stands rest.1.ending (goes_on_from stands rest.1.ending rest.1.rest.goes_on)),
         )
 
-    -- a run that was given up
+    -- A run that was given up.
     pub rest_given_up : (out out' : Stream) (why : Stopped) → GoesOn plan r.opened out out' (Err why) → Owes text out out' (Err why)
     rest_given_up out out' stopped.WriteFault (front, rose) = (begins_rest out out' front, rose)
     rest_given_up out out' stopped.NoMemory (front, same) = (begins_rest out out' front, same)
     rest_given_up out out' stopped.ReadFault goes = absurd goes
     rest_given_up out out' (stopped.Refused line rule) goes = absurd goes
 
-    -- the answer by the rest that was put and reported
+    -- The answer by the rest that was written and reported.
     module _ (out out' : Stream) (report : Report) (reports : ReportsRest plan r.opened out.bytes out'.bytes report) where
       abbrev rows : List Row
       rows = rows_of (run_of plan.system) reports.stands
@@ -146,7 +146,7 @@ module _ (text : List ℕ) (saved : Saved) (plan : Planned) (within : length tex
       put =
           subst (λ run. Appends out.bytes out'.bytes (lines_of plan.system (rows_of run reports.stands))) composed reports.out
 
-    -- a run that came to its end, and is told
+    -- A run that came to its end, and is reported.
     pub rest_told : (out out' : Stream) (report : Report) (came : Result Served Stopped) → GoesOn plan r.opened out out' (Ok report)
         → TellsResumed plan.system report came → Owes text out out' came
     rest_told out out' report (Ok served) (reports, same) (status_is, notes_is) = (
@@ -170,7 +170,7 @@ module _ (text : List ℕ) (saved : Saved) (plan : Planned) (within : length tex
           same,
         )
 
--- ---- What `save` came to
+-- ---- The result of `save`
 
 pub saved_made : (row : ℕ) (text : List ℕ) (plan : Planned) → IsAccepted text plan.system → plan ≡ planned plan.system → (asked : Saving) → asked.row ≡ row
     → (result : Result (Vec ℕ Global) Stopped) → MakesSaved plan row result → Makes (Answers (Save asked) text) result

@@ -1,4 +1,4 @@
--- What a run has put and come to, as the answer of its text.
+-- The output and the result of a run, as the answer for its text.
 use Rattle.std.specs.Io.KnownBytes.{Appends}
 use Rattle.cosim_io.specs.Pieces.{AppendsPrefix}
 use Rattle.std.proofs.Common.{◌≡◌, ℕ, List, ◌++◌, length, Option, pos, Result, Ok, Err, refl, sym, ap, subst, ◌∙◌, inl, inr, arith}
@@ -32,9 +32,9 @@ use Rattle.command_line.specs.declared.running.Running.{Running}
 use Rattle.cosim_answers.proofs.OutputNames.{ends_alike, same_status}
 use Rattle.cosim_answers.proofs.TraceLaws.{IsWhole, is_end, plain_outcome, whole_of}
 
--- ---- What a run tells
+-- ---- The trace of a run
 
--- its notes, by its system
+-- Its notes, by its system.
 pub notes_are : (system lent : System) (resolution : ℕ) (ending : Ending) (last : Point) → lent ≡ system → resolution ≡ resolution_of system
     → ending_notes lent resolution (source_end lent ending) last ≡ traced_notes system (source_end system ending) last
 unfolding traced_notes
@@ -42,18 +42,18 @@ notes_are system lent resolution ending last lent_is resolution_is =
     ap (λ s. ending_notes s resolution (source_end s ending) last) lent_is
     ∙ ap (λ r. ending_notes system r (source_end system ending) last) resolution_is
 
--- its text
+-- Its text.
 pub text_is : (system : System) → IsWhole system → (rows : List Row) (last : Point) (ending : Ending) → IsTraceOf system rows last ending
     → trace_text system rows ≡ traced_text system (read_rows system rows)
 unfolding traced_text
 text_is system whole rows last ending trace = text_read system whole.ranged whole.well_formed whole.ordered rows last ending trace
 
--- and its trace, which is told of the system
+-- Its trace, as that of the system.
 pub told : (system : System) → IsWhole system → (rows : List Row) (last : Point) (ending : Ending) → IsTraceOf system rows last ending
     → IsEventTraceOf system (read_rows system rows) last (read_end system ending)
 told system whole rows last ending trace = tells system whole.ranged whole.well_formed whole.ordered rows last ending trace
 
--- so that the answer of a run tells it
+-- So the answer of a run has it.
 pub trace_told : (system : System) → IsWhole system → (rows : List Row) (last : Point) (ending : Ending) → IsTraceOf system rows last ending
     → TellsTrace system (run_answer system (read_rows system rows) last (read_end system ending))
 trace_told system whole rows last ending trace = record {
@@ -64,7 +64,7 @@ trace_told system whole rows last ending trace = record {
   is = refl;
 }
 
--- and the answer of a run with its report, of which there are so many rows
+-- The answer of a run with its report, which has so many rows.
 reported_told : (asked : Running) (system : System) (whole : IsWhole system) (rows : List Row) (last : Point) (ending : Ending)
     → (trace : IsTraceOf system rows last ending) → (report : Report) → CanReport asked.workers system (length rows) report
     → TellsReported asked system (with_report asked report (run_answer system (read_rows system rows) last (read_end system ending)))
@@ -82,7 +82,7 @@ reported_told asked system whole rows last ending trace report can = record {
   is = refl;
 }
 
--- so that there is an answer for the text of which it is the text
+-- So there is an answer for the text.
 run_answers : (asked : Running) (text : List ℕ) (system : System) → IsAccepted text system → (rows : List Row) (last : Point) (ending : Ending)
     → IsTraceOf system rows last ending → (report : Report) → CanReport asked.workers system (length rows) report
     → Answers (Run asked) text (with_report asked report (run_answer system (read_rows system rows) last (read_end system ending)))
@@ -96,7 +96,7 @@ run_answers asked text system (lines, accepted) rows last ending trace report ca
 
 -- ---- Reports
 
--- what a run of a trace reports that made all its steps itself
+-- The report of a trace for a run that made all its steps itself.
 abbrev pub alone_report : ℕ → ℕ → Ending → Point → Report
 alone_report rows cells ending last = record {
   outcome = ending;
@@ -111,7 +111,7 @@ alone_report rows cells ending last = record {
   lapsed = 0;
 }
 
--- it can be reported of any run
+-- Any run may have this report.
 pub alone_can : (workers : ℕ) (system : System) (rows cells : ℕ) (ending : Ending) (last : Point) → HasCells system cells
     → CanReport workers system rows (alone_report rows cells ending last)
 alone_can workers system rows cells ending last has = record {
@@ -121,7 +121,7 @@ alone_can workers system rows cells ending last has = record {
   alone = λ none. record { found = refl; tickets = refl; posted = refl; back = refl; lapsed = refl };
 }
 
--- what a run reported can be reported of its trace
+-- The report of a run is one that its trace may have.
 can_of : (asked : Running) (system : System) (out out' : Option (List ℕ)) (report : Report) (reports : ReportsTrace system out out' report)
     → (asked.workers ≡ 0 → IsAlone report) → CanReport asked.workers system (length reports.rows) report
 can_of asked system out out' report reports alone = record {
@@ -131,16 +131,16 @@ can_of asked system out out' report reports alone = record {
   alone = alone;
 }
 
--- ---- What a run comes to
+-- ---- The result of a run
 
--- a text that is not run
+-- A text that is not run.
 pub run_stops : (asked : Running) (text : List ℕ) (out : Stream) (why : Stopped) → IsUnaccepted text why → Serves (Answers (Run asked) text) out out (Err why)
 run_stops asked text out (stopped.Refused line rule) refused = (inl (record { line = line; rule = rule; refused = refused; is = refl }), refl)
 run_stops asked text out stopped.NoMemory refused = (inl refl, refl)
 run_stops asked text out stopped.ReadFault refused = absurd refused
 run_stops asked text out stopped.WriteFault refused = absurd refused
 
--- what was put begins the text of a trace that is there
+-- What was written is a prefix of the text of a trace that exists.
 begins_answer : (asked : Running) (text : List ℕ) (system : System) → IsAccepted text system → (out out' : Stream) → PutsFront system out.bytes out'.bytes
     → Begins (Answers (Run asked) text) out out'
 begins_answer asked text system accepted out out' front =
@@ -155,7 +155,7 @@ begins_answer asked text system accepted out out' front =
           (front.begins one.rows one.last one.ending one.is_trace),
     )
 
--- a run that was given up
+-- A run that was given up.
 pub run_given_up : (asked : Running) (text : List ℕ) (system : System) → IsAccepted text system → (out out' : Stream) (why : Stopped)
     → Runs system out out' (Err why) → Serves (Answers (Run asked) text) out out' (Err why)
 run_given_up asked text system accepted out out' stopped.WriteFault (front, rose) = (begins_answer asked text system accepted out out' front, rose)
@@ -163,7 +163,7 @@ run_given_up asked text system accepted out out' stopped.NoMemory (front, same) 
 run_given_up asked text system accepted out out' stopped.ReadFault runs = absurd runs
 run_given_up asked text system accepted out out' (stopped.Refused line rule) runs = absurd runs
 
--- a run that came to its end, and is told
+-- A run that came to its end, and is reported.
 pub run_told : (asked : Running) (text : List ℕ) (system : System) → IsAccepted text system → (out out' : Stream) (report : Report)
     → (came : Result Served Stopped) → Runs system out out' (Ok report) → (asked.workers ≡ 0 → IsAlone report)
     → TellsEnding system asked report came → Serves (Answers (Run asked) text) out out' came

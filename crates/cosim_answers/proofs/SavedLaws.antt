@@ -1,4 +1,4 @@
--- What the answers of `save` and `resume` keep: there is one for each text, and there are no two.
+-- What holds of the answers of `save` and `resume`: there is exactly one for each text.
 use Rattle.std.proofs.Common.{◌≡◌, ℕ, ◌+◌, ◌<◌, ◌≤◌, ◌⊎◌, List, length, refl, sym, ap, subst, ◌∙◌, inl, inr, arith}
 use Rattle.text_accept.specs.Accepting.{IsAcceptedAs, IsRefusedAt}
 use Rattle.text_accept.proofs.Acceptance.{judged_once}
@@ -60,7 +60,7 @@ saves_answer row = record {
 
 -- ---- `resume`
 
--- the rest that there is, as an answer
+-- The rest that exists, as an answer.
 pub rest_there : (system : System) (saved : Saved) (at : Position) → IsWhole system → FitsSaved (planned system) saved at
     → (answer : Answer) × TellsRest system at answer
 rest_there system saved at whole fits =
@@ -95,7 +95,7 @@ module _ (text : List ℕ) where
   same_saved : (one other : Saved) → IsSaved text one → IsSaved text other → one ≡ other
   same_saved = (saves_or_breaks text).saved_once
 
-  -- the text behind what is saved is that behind the same
+  -- The text after the saved position.
   abbrev Behind : Saved → List ℕ
   Behind = text_behind text
 

@@ -1,4 +1,4 @@
--- A run that is saved, and resumed, puts what it puts.
+-- A run that is saved and resumed writes the same as the run.
 use Rattle.std.proofs.Common.{◌≡◌, ℕ, ◌+◌, ◌≤◌, List, ◌∷◌, ◌++◌, length, refl, sym, ap, subst, ◌∙◌, inl, inr, arith}
 use Rattle.std.proofs.Transfers.{drop-appended}
 use Rattle.std.proofs.lemmas.List.Concat.{flat_map-append}
@@ -42,9 +42,9 @@ use Rattle.cosim_answers.proofs.RunLaws.{text_is, trace_told}
 use Rattle.cosim_answers.proofs.SavedLaws.{resume_lawful, rest_there}
 use Rattle.cosim_answers.proofs.TraceLaws.{IsWhole, whole_of}
 
--- ---- The text behind the lines of a saved text
+-- ---- The text after the lines of a saved text
 
--- a system of an accepted text is the one that its canonical text is accepted as
+-- The canonical text of the system of an accepted text is accepted as this system.
 canonical_accepted : (text : List ℕ) (system : System) (lines : List ℕ) → IsAcceptedAs text system lines
     → (lines : List ℕ) × IsAcceptedAs (canonical_text system) system lines
 canonical_accepted text system lines accepted =
@@ -57,7 +57,7 @@ canonical_accepted text system lines accepted =
       },
     )
 
--- and stands behind the lines of a position
+-- It comes after the lines of a position.
 canonical_behind : (system : System) (at : Position) → text_behind (saved_text system at) (saved_of system at) ≡ canonical_text system
 unfolding saved_text
 canonical_behind system at =
@@ -122,7 +122,7 @@ module _ (row : ℕ) (text : List ℕ) (saved resumed run : Answer) (of : Answer
     last_is = sym ends.last_is;
   }
 
-  -- what the run tells of this trace
+  -- The answer of the run for this trace.
   run_is : run ≡ run_answer system (read_rows system (before ++ tells.rows)) tells.last (read_end system tells.ending)
   run_is =
       traces_same system whole run (run_answer system (read_rows system (before ++ tells.rows)) tells.last (read_end system tells.ending))
@@ -152,9 +152,9 @@ module _ (row : ℕ) (text : List ℕ) (saved resumed run : Answer) (of : Answer
   many : length before ≡ row
   many = rows_before (run_of system) row at position
 
--- ---- What `save` puts is not refused
+-- ---- What `save` writes is not refused
 
--- a saved text is its lines and the canonical text
+-- A saved text is its lines and the canonical text.
 saved_length : (system : System) (at : Position)
     → length (saved_text system at) ≡ length (ended (saved_lines at.number at.point (named_states system at))) + length (canonical_text system)
 unfolding saved_text

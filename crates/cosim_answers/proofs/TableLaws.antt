@@ -1,4 +1,4 @@
--- What the answers of `verify` and `stimulus` keep, and what the commands came to, as answers of their input.
+-- What holds of the answers of `verify` and `stimulus`, and the results of the commands, as answers for their input.
 use Rattle.std.specs.Prelude.{Vec}
 use Rattle.std.specs.declared.alloc.Global.{Global}
 use Rattle.std.proofs.Common.{◌≡◌, ◌⊎◌, ◌≤◌, ℕ, List, length, Ok, Err, refl, sym, ap, subst, ◌∙◌, inl, inr}
@@ -153,7 +153,7 @@ stimulus_lawful = record {
   ends = λ input answer plays. subst (λ (a : Answer). IsEndOfWork a.status) (sym plays.is) tt;
 }
 
--- ---- What `stimulus` came to
+-- ---- The result of `stimulus`
 
 pub table_made : (input : List ℕ) (system : System) (bytes : Vec ℕ Global) → length input ≤ stimulus_limit → IsSystemOf (records_of input) system
     → bytes.items ≡ printed_text system → Makes (Answers Stimulus input) (Ok bytes)
@@ -169,9 +169,9 @@ table_not_made input stopped.NoMemory within leaves = tt
 table_not_made input stopped.ReadFault within leaves = absurd leaves
 table_not_made input stopped.WriteFault within leaves = absurd leaves
 
--- ---- What `verify` came to
+-- ---- The result of `verify`
 
--- an input that no line parts
+-- An input without a line between a text and a table.
 pub never_parted : (input : List ℕ) (why : Stopped) → length input ≤ verify_limit → FindsParts input (Err why) → Makes (Answers Verify input) (Err why)
 never_parted input (stopped.Refused line rule) within lacks =
     inl (record { line = line; rule = rule; refused = inr (record { within = within; refused = inl lacks }); is = refl })
@@ -180,7 +180,7 @@ never_parted input stopped.ReadFault within lacks = absurd lacks
 never_parted input stopped.WriteFault within lacks = absurd lacks
 
 module _ (input front table : List ℕ) (within : length input ≤ verify_limit) (parted : IsParted input front table) where
-  -- a text that is not accepted
+  -- A text that is not accepted.
   pub front_refused : (why : Stopped) → IsUnaccepted front why → Makes (Answers Verify input) (Err why)
   front_refused (stopped.Refused line rule) refused =
       inl (record {
@@ -193,7 +193,7 @@ module _ (input front table : List ℕ) (within : length input ≤ verify_limit)
   front_refused stopped.ReadFault refused = absurd refused
   front_refused stopped.WriteFault refused = absurd refused
 
-  -- a verdict is one on the trace that the system has
+  -- A verdict is one on the trace of the system.
   tells_verdict : (system : System) → IsWhole system → (verdict : Verdict) → IsVerdictOn system table verdict
       → TellsVerdict table system (piece_answer (verdict_text verdict))
   tells_verdict system whole verdict is_verdict =

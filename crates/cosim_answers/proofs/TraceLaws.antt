@@ -24,13 +24,13 @@ use Rattle.cosim_call.specs.declared.status.Status.{Status}
 use Rattle.cosim_answers.specs.Accepted.{status_of}
 use Rattle.command_line.specs.Generations.{Asked, CanGive, system_asked}
 
--- a system that is in range and keeps all rules, and whose outputs have an order
+-- A system that is in range and keeps all rules, and whose outputs have an order.
 pub record IsWhole (system : System) : Type 0 where
   pub ranged : IsRanged system
   pub well_formed : IsWellFormed system
   pub ordered : HasNoCycle system
 
--- what a text is accepted as keeps all rules
+-- The system as which a text is accepted keeps all rules.
 pub whole_of : (text : List ℕ) (system : System) (lines : List ℕ) → IsAcceptedAs text system lines → IsWhole system
 whole_of text system lines accepted = record {
   ranged = (read_is_printable text system accepted.reads.reads).ranged;
@@ -38,7 +38,7 @@ whole_of text system lines accepted = record {
   ordered = accepted.ordered;
 }
 
--- and so does a generated system
+-- So does a generated system.
 pub whole_asked : (asked : Asked) → CanGive asked → IsWhole (system_asked asked)
 unfolding system_asked
 whole_asked asked can = record {
@@ -47,11 +47,11 @@ whole_asked asked can = record {
   ordered = has_no_cycle asked.seed asked.instances asked.rows can;
 }
 
--- it has one trace
+-- It has one trace.
 pub one_outcome : (system : System) → IsWhole system → HasOneEventTraceOf system
 one_outcome system whole = one_event_outcome system whole.ranged whole.well_formed whole.ordered
 
--- and so has what is run of it
+-- So has the plain form.
 pub plain_outcome : (system : System) → IsWhole system → HasOneTraceOf system
 plain_outcome system whole =
     let order = runs_have_orders system whole.ranged whole.well_formed whole.ordered in
@@ -59,7 +59,7 @@ plain_outcome system whole =
 
 -- ---- Ends
 
--- a trace's ends are ends of a command
+-- The end of a trace is an end of a command.
 pub is_end : (ending : Ending) (given : Status) → given ≡ status_of ending → IsEndOfWork given
 is_end Completed given is = subst IsEndOfWork (sym is) tt
 is_end RowBudget given is = subst IsEndOfWork (sym is) tt

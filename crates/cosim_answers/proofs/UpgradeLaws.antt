@@ -1,4 +1,4 @@
--- The command `upgrade`: what is asked of the system of an accepted text, and why one is refused.
+-- The command `upgrade`: what is needed of the system of an accepted text, and why one is refused.
 use Rattle.std.proofs.Common.{ℕ, List, Err, refl, inl, inr}
 use Rattle.cosim_call.specs.Coming.{Makes}
 use Rattle.cosim_call.specs.declared.coming.Stopped.{Stopped}
@@ -11,11 +11,11 @@ use Rattle.cosim_answers.specs.Answer.{Answers}
 use Rattle.cosim_answers.specs.Serving.{Upgrades}
 use Rattle.command_line.specs.declared.commands.Command.TheVariants.{Upgrade}
 
--- what a text is accepted as is printable
+-- The system as which a text is accepted is printable.
 pub accepted_is_printable : (text : List ℕ) (system : System) (lines : List ℕ) → IsAcceptedAs text system lines → IsPrintable system
 accepted_is_printable text system lines accepted = read_is_printable text system accepted.reads.reads
 
--- a system that is not upgraded is one of a text that is refused, or there is no memory
+-- A system that is not upgraded is one of a text that is refused, or memory was refused.
 pub not_upgraded : (text : List ℕ) (system : System) (lines : List ℕ) → IsAcceptedAs text system lines → (why : Stopped) → Upgrades system (Err why)
     → Makes (Answers Upgrade text) (Err why)
 not_upgraded text system lines accepted (stopped.Refused line rule) refused = inl (record {

@@ -1,4 +1,4 @@
--- Answers for texts that keep all rules, by the system that a text says.
+-- Answers for texts that keep all rules, by the system of the text.
 use Rattle.std.specs.Prelude.{◌≡◌, ◌⊎◌, ℕ, List}
 use Rattle.event_csv.specs.EventText.{event_text}
 use Rattle.event_runs.specs.EventRuns.{IsEventTraceOf}
@@ -17,14 +17,14 @@ use Rattle.cosim_call.specs.declared.status.Status.{Status}
 use Rattle.cosim_call.specs.declared.status.Status.TheVariants as status
 use Rattle.cosim_answers.specs.Notes.{ending_notes}
 
--- A text that keeps all rules is answered by its system, as the command answers this.
+-- The answer for a text that keeps all rules is an answer for its system.
 pub record OnAccepted (IsAnswer : System → Answer → Type 0) (text : List ℕ) (answer : Answer) : Type 0 where
   pub system : System
   pub lines : List ℕ
   pub accepted : IsAcceptedAs text system lines
   pub is : IsAnswer system answer
 
--- A text keeps all rules of the language, and its system breaks one of the command's own: this is told at line 1.
+-- A text keeps all rules of the language, and its system breaks a rule of the command. This is reported at line 1.
 pub record BreaksOneMore (Breaks : System → Type 0) (number : ℕ) (text : List ℕ) (line rule : ℕ) : Type 0 where
   pub system : System
   pub lines : List ℕ
@@ -33,17 +33,17 @@ pub record BreaksOneMore (Breaks : System → Type 0) (number : ℕ) (text : Lis
   pub at : line ≡ 1
   pub by : rule ≡ number
 
--- By which lines and rules such a command refuses a text.
+-- The lines and rules by which such a command refuses a text.
 abbrev pub RefusesAlso : (System → Type 0) → ℕ → List ℕ → ℕ → ℕ → Type 0
 RefusesAlso Breaks number text line rule = IsRefusedAt text line rule ⊎ BreaksOneMore Breaks number text line rule
 
--- ---- What is run of a system, and its canonical text
+-- ---- The plan and the canonical text of a system
 
--- A system with what is run of it.
+-- A system with the run of its plain form.
 abbrev pub planned : System → Planned
 planned system = record { system = system; run = run_of system }
 
--- What is printed of a system: its canonical text.
+-- The printed text of a system: its canonical text.
 unfoldable pub printed_text : System → List ℕ
 printed_text system = canonical_text system
 
@@ -59,11 +59,11 @@ status_of ZeroBudget = status.ZeroBudget
 status_of (UnitFault instance place fault) = status.UnitFault
 status_of (StepRefused instance asked accepted) = status.StepRefused
 
--- What is put for the rows of a trace: the text of the trace.
+-- The printed text of the rows of a trace: the text of the trace.
 unfoldable pub traced_text : System → List EventRow → List ℕ
 traced_text system rows = event_text system rows
 
--- What is noted of its end, by the names in the system, and with times in seconds as in the trace.
+-- The notes of its end, with the names of the system, and with times in seconds as in the trace.
 unfoldable pub traced_notes : System → Ending → Point → List (List ℕ)
 traced_notes system ending last = ending_notes system (resolution_of system) ending last
 
@@ -72,7 +72,7 @@ abbrev pub run_answer : System → List EventRow → Point → Ending → Answer
 run_answer system rows last ending =
     record { out = traced_text system rows; notes = traced_notes system ending last; status = status_of ending }
 
--- By the trace of the system.
+-- The answer is that of the trace of the system.
 pub record TellsTrace (system : System) (answer : Answer) : Type 0 where
   pub rows : List EventRow
   pub last : Point

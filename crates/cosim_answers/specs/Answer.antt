@@ -1,5 +1,4 @@
--- Answers: what the program puts out and notes, and how it ends, for the words of a command line and the bytes
--- of its input.
+-- Answers: the output, the notes and the status of the program, for the words of a command line and the bytes of its input.
 use Rattle.std.specs.Prelude.{◌≡◌, ℕ, ℤ, ◌+◌, ◌<◌, ◌≤◌, if◌then◌else◌, List, [], ◌∷◌, ◌++◌, length, Option, Some, None, codes, ◌⊎◌}
 use Rattle.serial_run.specs.Alone.{IsAlone}
 use Rattle.spec_core.specs.Replays.{IsReplayed}
@@ -32,10 +31,10 @@ use Rattle.command_line.specs.declared.commands.Command.TheVariants.{Nodes}
 use Rattle.command_line.specs.declared.replaying.Replaying.{Replaying}
 use Rattle.command_line.specs.declared.running.Running.{Running}
 
--- ---- What each command answers
+-- ---- The answers of each command
 
--- What a run of a system with so many workers may report, whose trace has so many rows: these, and how its cells were filled, from
--- answers or by own steps; each ticket was posted, given back or lapsed. Without workers nothing came from others.
+-- A report that a run of a system with so many workers may have, whose trace has so many rows: it has these rows, and how its cells
+-- were filled, from answers or by own steps. Each ticket was posted, given back or lapsed. Without workers nothing came from others.
 pub record CanReport (workers : ℕ) (system : System) (rows : ℕ) (report : Report) : Type 0 where
   pub rows_counted : report.rows ≡ rows
   pub cells : HasCells system (report.found + report.own)
@@ -46,11 +45,11 @@ pub record CanReport (workers : ℕ) (system : System) (rows : ℕ) (report : Re
 abbrev pub report_lines : Running → Report → List (List ℕ)
 report_lines asked report = if asked.report then report_text report ∷ [] else []
 
--- The answer by a trace, with the line of a report behind its notes where one is asked for.
+-- The answer for a trace, with the line of a report after its notes where one is asked for.
 abbrev pub with_report : Running → Report → Answer → Answer
 with_report asked report answer = record answer { notes = answer.notes ++ report_lines asked report }
 
--- By the trace of the system, and by what a run of it may report.
+-- The answer is that of the trace of the system, with a report that a run of it may have.
 pub record TellsReported (asked : Running) (system : System) (answer : Answer) : Type 0 where
   pub trace : Answer
   pub tells : TellsTrace system trace
@@ -67,15 +66,15 @@ accepted_text = codes "accepted" ++ line_end
 abbrev pub accepted_answer : Answer
 accepted_answer = piece_answer accepted_text
 
--- By telling that it is accepted.
+-- The answer is that the text is accepted.
 abbrev pub AnswersCheck : List ℕ → Answer → Type 0
 AnswersCheck = OnAccepted (λ system answer. answer ≡ accepted_answer)
 
--- By the canonical text of the system.
+-- The answer is the canonical text of the system.
 abbrev pub AnswersPrint : List ℕ → Answer → Type 0
 AnswersPrint = OnAccepted (λ system answer. answer ≡ printed_answer system)
 
--- By the canonical text of the system in version 2, which is no longer than a text may be.
+-- The answer is the canonical text of the system in version 2, which is not longer than a text may be.
 pub record TellsUpgrade (system : System) (answer : Answer) : Type 0 where
   pub fits : length (printed_text (upgraded system)) ≤ text_limit
   pub is : answer ≡ printed_answer (upgraded system)
@@ -90,11 +89,11 @@ IsTooLongInVersion2 system = text_limit < length (printed_text (upgraded system)
 abbrev pub RefusesUpgrade : List ℕ → ℕ → ℕ → Type 0
 RefusesUpgrade = RefusesAlso IsTooLongInVersion2 37
 
--- The answer of a run, with the line of a replay's counts behind its notes.
+-- The answer of a run, with the line of a replay's counts after its notes.
 abbrev pub with_counts : Counts → Answer → Answer
 with_counts counts answer = record answer { notes = answer.notes ++ counts_text counts ∷ [] }
 
--- As a run does, and by the counts of its replay.
+-- The answer is that of a run, with the counts of its replay.
 pub record TellsReplay (asked : Replaying) (system : System) (answer : Answer) : Type 0 where
   pub run : Answer
   pub tells : TellsTrace system run
@@ -105,7 +104,7 @@ pub record TellsReplay (asked : Replaying) (system : System) (answer : Answer) :
 abbrev pub AnswersReplay : Replaying → List ℕ → Answer → Type 0
 AnswersReplay asked = OnAccepted (TellsReplay asked)
 
--- By the canonical text of the system that is asked for.
+-- The answer is the canonical text of the system that is asked for.
 abbrev pub AnswersGen : Asked → Answer → Type 0
 AnswersGen asked answer = answer ≡ printed_answer (system_asked asked)
 
@@ -117,7 +116,7 @@ traced_sum system rows = sum_shown (columns_of system) rows
 abbrev pub figures_answer : Asked → List Row → Point → Answer
 figures_answer asked rows last = piece_answer (figures_text asked.instances (length rows) last (traced_sum (system_asked asked) rows))
 
--- By figures of the trace of the generated system, however this ends.
+-- The answer is the figures of the trace of the generated system, however the trace ends.
 pub record AnswersBench (asked : Asked) (answer : Answer) : Type 0 where
   pub rows : List Row
   pub last : Point
@@ -141,7 +140,7 @@ ServedBy Stimulus text answer = AnswersStimulus text answer
 ServedBy Flatten text answer = AnswersFlatten text answer
 ServedBy (Nodes asked) text answer = AnswersNodes asked text answer
 
--- The line and the rule by which a command refuses a text; one that reads nothing refuses nothing.
+-- The line and the rule by which a command refuses a text. A command that reads nothing refuses nothing.
 abbrev pub RefusedBy : Command → List ℕ → ℕ → ℕ → Type 0
 RefusedBy (Run asked) text line rule = IsRefusedAt text line rule
 RefusedBy Check text line rule = IsRefusedAt text line rule
@@ -157,7 +156,7 @@ RefusedBy Stimulus text line rule = StimulusRefuses text line rule
 RefusedBy Flatten text line rule = FlattenRefuses text line rule
 RefusedBy (Nodes asked) text line rule = NodesRefuses text line rule
 
--- A text that is refused is answered by its line and rule.
+-- The answer for a text that is refused has its line and rule.
 pub record AnswersRefusal (command : Command) (text : List ℕ) (answer : Answer) : Type 0 where
   pub line : ℕ
   pub rule : ℕ
@@ -170,11 +169,11 @@ Answers command text answer = AnswersRefusal command text answer ⊎ ServedBy co
 
 -- ---- The answer of a call
 
--- The answers for a text of the command that words are of; words without a form have one answer, and the input does not matter.
+-- The answers of a command for a text. Words without a form have one answer, for any input.
 abbrev pub AnswersOf : Option Command → List ℕ → Answer → Type 0
 AnswersOf (Some command) text answer = Answers command text answer
 AnswersOf None text answer = answer ≡ usage_answer
 
--- The answers for the words and the input.
+-- The answers for words and input.
 abbrev pub IsAnswer : List (List ℕ) → List ℕ → Answer → Type 0
 IsAnswer words = AnswersOf (command_of words)

@@ -1,4 +1,4 @@
--- The figures of a trace, which are told in place of its rows.
+-- The figures of a trace, which `bench` prints instead of its rows.
 use Rattle.std.specs.Prelude.{ℕ, ℤ, List, ◌++◌, codes}
 use Rattle.std.specs.Fmt.{decimal, signed_decimal}
 use Rattle.super_time.specs.declared.point.Point.{Point}
@@ -12,7 +12,7 @@ figure_line name figure = name ++ codes " " ++ figure ++ line_end
 abbrev pub ticks_text : Point → List ℕ
 ticks_text point = decimal point.t ++ codes "," ++ decimal point.n
 
--- How many components there are, how many rows the trace has, its last point in ticks, and the sum of all words that it shows.
+-- The figures: how many components there are, how many rows the trace has, its last point in ticks, and the sum of all words in it.
 abbrev pub figures_text : ℕ → ℕ → Point → ℤ → List ℕ
 figures_text instances rows last sum =
     figure_line (codes "instances") (decimal instances)

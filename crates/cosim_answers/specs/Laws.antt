@@ -17,54 +17,54 @@ use Rattle.trace_rows.specs.declared.report.Report.{Report}
 abbrev pub EveryCallIsAnswered : Type 0
 EveryCallIsAnswered = (words : List (List ℕ)) (text : List ℕ) → (answer : Answer) × IsAnswer words text answer
 
--- All of them put the same and have the same status.
+-- All of them write the same bytes and have the same status.
 abbrev pub AnswersAgree : Type 0
 AnswersAgree =
     (words : List (List ℕ)) (text : List ℕ) (one other : Answer) → IsAnswer words text one → IsAnswer words text other
     → (one.out ≡ other.out) × (one.status ≡ other.status)
 
--- All is determined but what is reported of workers.
+-- All is determined, except where workers are reported.
 abbrev pub IsDetermined : Option Command → Type 0
 IsDetermined (Some (Run asked)) = asked.report ≡ true → asked.workers ≡ 0
 IsDetermined _ = ⊤
 
--- Then there are no two.
+-- Then there is only one.
 abbrev pub NoCallIsAnsweredTwice : Type 0
 NoCallIsAnsweredTwice =
     (words : List (List ℕ)) (text : List ℕ) (one other : Answer) → IsDetermined (command_of words)
     → IsAnswer words text one → IsAnswer words text other → one ≡ other
 
--- A run puts the same and has the same status however it is asked for.
+-- A run writes the same and has the same status, whatever its options are.
 abbrev pub RunsAgree : Type 0
 RunsAgree =
     (asked also : Running) (text : List ℕ) (one other : Answer) → Answers (Run asked) text one → Answers (Run also) text other
     → (one.out ≡ other.out) × (one.status ≡ other.status)
 
--- These are the notes of a run that is asked for so, but for the line of a report, where one is asked for. A refusal has none.
+-- These are the notes of a run with these options, without the line of a report. A refusal has no such line.
 abbrev pub IsNoted : Running → List (List ℕ) → Answer → Type 0
 IsNoted asked notes answer =
     ((answer.status ≡ status.Refused) × (answer.notes ≡ notes)) ⊎ ((report : Report) × (answer.notes ≡ notes ++ report_lines asked report))
 
--- A run notes the same of its text however it is asked for, but for the line of a report.
+-- A run has the same notes for its text, whatever its options are, except for the line of a report.
 abbrev pub NotesAgree : Type 0
 NotesAgree =
     (asked also : Running) (text : List ℕ) (one other : Answer) → Answers (Run asked) text one → Answers (Run also) text other
     → (notes : List (List ℕ)) × IsNoted asked notes one × IsNoted also notes other
 
--- An answer by Refused is the refusal of the text by the command of the words.
+-- An answer with Refused is the refusal of the text by the command of the words.
 abbrev pub RefusalsAreOfRules : Type 0
 RefusalsAreOfRules =
     (words : List (List ℕ)) (text : List ℕ) (answer : Answer) → IsAnswer words text answer → answer.status ≡ status.Refused
     → (command : Command) × (Some command ≡ command_of words) × AnswersRefusal command text answer
 
--- An answer by any status with which a command's work ends is one for a text that the command serves.
+-- An answer with a status by which a command's work ends is one for a text that the command serves.
 abbrev pub EndsAreServed : Type 0
 EndsAreServed =
     (words : List (List ℕ)) (text : List ℕ) (answer : Answer) → IsAnswer words text answer → IsEndOfWork answer.status
     → (command : Command) × (Some command ≡ command_of words) × ServedBy command text answer
 
--- What `run` puts is the header, as many rows as the number of the position that was saved, and then just what `resume` puts. The status
--- is the same, and so are the notes, but for the line of a report.
+-- What `run` prints is the header, as many rows as the number of the saved position, and then exactly what `resume` prints. The status
+-- is the same, and so are the notes, except for the line of a report.
 pub record EndsRun (row : ℕ) (asked : Running) (system : System) (resumed run : Answer) : Type 0 where
   pub before : List Row
   pub as_many : length before ≡ row
@@ -72,7 +72,7 @@ pub record EndsRun (row : ℕ) (asked : Running) (system : System) (resumed run 
   pub notes : IsNoted asked resumed.notes run
   pub status : run.status ≡ resumed.status
 
--- Where `save` serves a text, `resume` serves what it prints, and ends the run of the text.
+-- Where `save` serves a text, `resume` serves what it prints, and prints the end of the text's run.
 abbrev pub SavedRunsGoOn : Type 0
 SavedRunsGoOn =
     (row : ℕ) (asked : Running) (text : List ℕ) (saved resumed run : Answer) (of : AnswersSave row text saved)

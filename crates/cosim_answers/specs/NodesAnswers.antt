@@ -1,6 +1,6 @@
--- What `nodes` answers, and by which rule of its own it refuses a system.
+-- The answers of `nodes`, and the rule by which it refuses a system.
 --
---   rule 34   the rows that there may be have too many outputs, or instances, for two nodes
+--   rule 34   the product of the budget of rows and the outputs, or instances, is too large for two nodes
 use Rattle.std.specs.Prelude.{◌≡◌, ℕ, ◌*◌, ◌<◌, ◌≤◌, max, List, [], ◌∷◌, ◌++◌, length, Option, Some, None}
 use Rattle.std.specs.List.{flat_map}
 use Rattle.link_laws.specs.Pairs.{Pair}
@@ -24,18 +24,18 @@ use Rattle.cosim_answers.specs.SourcePlaces.{source_end}
 
 -- ---- Systems that are too large
 
--- The outputs of what is run.
+-- The outputs of the plain form.
 abbrev pub outputs_run : Composition → List Output
 outputs_run run = flat_map (λ member. member.component.unit.outputs) run.members
 
--- How many words its rows may have, or how many instances these, whichever is more.
+-- The greatest number of words in its rows, or of instances times rows, whichever is more.
 abbrev pub size_for_nodes : Composition → ℕ
 size_for_nodes run = run.row_budget * max (length (outputs_run run)) (length run.members)
 
 abbrev pub nodes_limit : ℕ
 nodes_limit = 1000000
 
--- That is more than two nodes serve: rule 34.
+-- This is more than two nodes serve: rule 34.
 abbrev pub IsTooLargeForNodes : System → Type 0
 IsTooLargeForNodes system = nodes_limit < size_for_nodes (run_of system)
 
@@ -44,7 +44,7 @@ NodesRefuses = RefusesAlso IsTooLargeForNodes 34
 
 -- ---- Answers
 
--- How node 0 ended, where it did.
+-- The status, by how node 0 ended, where it did.
 abbrev pub node_status : Option Ending → Status
 node_status None = status.Done
 node_status (Some ending) = status_of ending
@@ -56,7 +56,7 @@ node_notes system (Some ending) last = traced_notes system (source_end system en
 abbrev pub told_notes : System → Nodes → List (List ℕ)
 told_notes system nodes = node_notes system nodes.outcome nodes.last ++ nodes_text nodes.first nodes.second ∷ []
 
--- The header and the rows that node 0 has committed, of these stands, and how far both nodes are.
+-- The header and the rows of these stands that node 0 has committed, and the progress of both nodes.
 abbrev pub nodes_answer : System → Pair → List Stand → Answer
 nodes_answer system pair stands = record {
   out = header_of system ++ lines_shown (planned system) pair.first stands;
@@ -64,7 +64,7 @@ nodes_answer system pair stands = record {
   status = node_status pair.first.ended;
 }
 
--- By the rows of the one trace that node 0 has committed after the rounds that are asked for.
+-- The answer is the rows of the one trace that node 0 has committed after the rounds that are asked for.
 pub record TellsNodes (asked : Splitting) (system : System) (answer : Answer) : Type 0 where
   pub fits : size_for_nodes (run_of system) ≤ nodes_limit
   pub stands : List Stand

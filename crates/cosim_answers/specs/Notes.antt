@@ -1,4 +1,4 @@
--- Notes: the lines that commands write beside their output.
+-- Notes: the lines that commands write to standard error.
 use Rattle.std.specs.Prelude.{ℕ, List, [], ◌∷◌, ◌++◌, codes, Option, Some, None, slice_get}
 use Rattle.std.specs.Option.{option_and_then, option_map, unwrap_or}
 use Rattle.std.specs.Fmt.{decimal}
@@ -36,7 +36,7 @@ instance_name system instance = name_or_none (option_and_then (λ i. Some i.name
 abbrev pub name_in : Unit → ℕ → List ℕ
 name_in unit number = name_or_none (option_and_then (λ o. Some o.name) (slice_get (output_ports unit) number))
 
--- The same by the number of an instance. Where there is none, or of no unit, the name is empty.
+-- The same by the number of an instance. Where there is no such instance, or its unit is not declared, the name is empty.
 abbrev pub output_name : System → ℕ → ℕ → List ℕ
 output_name system instance number =
     unwrap_or (option_map (λ unit. name_in unit number) (option_and_then (unit_of_instance system) (slice_get system.instances instance))) []
@@ -50,7 +50,7 @@ place_text system instance place.Step = codes " step"
 abbrev pub point_text : ℕ → Point → List ℕ
 point_text resolution point = seconds_text_of resolution point.t ++ codes "," ++ decimal point.n
 
--- A fault of an instance in a place at a point.
+-- A fault of an instance, its place in the instance, and its point.
 abbrev pub fault_text : ℕ → List ℕ → List ℕ → Fault → Point → List ℕ
 fault_text resolution instance place fault point =
     note (codes "fault " ++ decimal (fault_number fault) ++ codes " of " ++ instance ++ place ++ codes " at " ++ point_text resolution point)
@@ -59,7 +59,7 @@ fault_text resolution instance place fault point =
 abbrev pub budget_text : ℕ → List ℕ → Point → List ℕ
 budget_text resolution budget point = note (budget ++ codes " budget at " ++ point_text resolution point)
 
--- The length of a step that was refused, and what was accepted of it, in local ticks.
+-- The length of a step that was refused, and how much of it was accepted, in local ticks.
 abbrev pub lengths_text : ℕ → ℕ → List ℕ
 lengths_text asked accepted = codes " refused " ++ decimal asked ++ codes ", accepted " ++ decimal accepted
 
@@ -68,7 +68,7 @@ abbrev pub step_refused_text : ℕ → List ℕ → ℕ → ℕ → Point → Li
 step_refused_text resolution instance asked accepted point =
     note (instance ++ lengths_text asked accepted ++ codes ", at " ++ point_text resolution point)
 
--- The lines that tell how a run of a system ended at its last point: none where it came to its stop.
+-- The lines for how a run of a system ended at its last point. There are none where it came to its stop.
 abbrev pub ending_notes : System → ℕ → Ending → Point → List (List ℕ)
 ending_notes system resolution Completed point = []
 ending_notes system resolution RowBudget point = budget_text resolution (codes "row") point ∷ []
@@ -86,13 +86,13 @@ count_text name count = codes " " ++ name ++ codes " " ++ decimal count
 abbrev pub steps_text : ℕ → ℕ → List ℕ
 steps_text found own = count_text (codes "found") found ++ count_text (codes "own") own
 
--- How many tickets there were, and what became of them.
+-- How many tickets there were, and how they ended.
 abbrev pub tickets_text : ℕ → ℕ → ℕ → ℕ → List ℕ
 tickets_text tickets posted back lapsed =
     count_text (codes "tickets") tickets ++ count_text (codes "posted") posted ++ count_text (codes "back") back ++ count_text (codes "lapsed") lapsed
 
--- The line of a replay's counts: how many events there were and how many were refused, the steps, the tickets, and the answers that
--- came of these.
+-- The line of a replay's counts: how many events there were and how many were refused, the steps, the tickets, and how many answers
+-- were appended.
 abbrev pub counts_text : Counts → List ℕ
 counts_text counts =
     codes "cosim:"
@@ -103,7 +103,7 @@ counts_text counts =
     ++ count_text (codes "appended") counts.appended
     ++ line_end
 
--- The line of a run's report: how many rows were put, the steps, and the tickets.
+-- The line of a run's report: how many rows were written, the steps, and the tickets.
 abbrev pub report_text : Report → List ℕ
 report_text report =
     codes "cosim:"
@@ -112,6 +112,6 @@ report_text report =
     ++ tickets_text report.tickets report.posted report.back report.lapsed
     ++ line_end
 
--- The line that tells at which rows two nodes stand.
+-- The line with the rows of two nodes.
 abbrev pub nodes_text : ℕ → ℕ → List ℕ
 nodes_text first second = note (codes "node 0 row " ++ decimal first ++ codes ", node 1 row " ++ decimal second)

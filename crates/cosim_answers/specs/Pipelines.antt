@@ -1,4 +1,4 @@
--- Laws of pipelines: what a command answers to what another one printed.
+-- Laws of pipelines: the answers of a command to what another one printed.
 use Rattle.std.specs.Prelude.{◌≡◌, ℕ, ◌≤◌, List, ◌∷◌, ◌++◌, length, map}
 use Rattle.command_line.specs.Commands.{verify_limit}
 use Rattle.command_line.specs.Generations.{Asked, CanGive, system_asked}
@@ -61,7 +61,7 @@ RunsAreVerified =
 
 -- ---- `flatten | run`
 
--- A run prints the trace of the nest that a text says, with the columns of its flat system.
+-- A run prints the trace of the nest that a text has, with the columns of its flat system.
 pub record RunsNest (text : List ℕ) (run : Answer) : Type 0 where
   pub nest : Nest
   pub says : IsNestOf text nest
@@ -104,7 +104,7 @@ pub record HasFigures (given : Asked) (figures run : Answer) : Type 0 where
   pub out : run.out ≡ header_of (system_asked given) ++ lines_of (system_asked given) rows
   pub figures_are : figures ≡ figures_answer given rows last
 
--- What `bench` answers to a seed and two numbers are the figures of the run of what `gen` prints of them.
+-- For a seed and two numbers, the figures that `bench` prints are those of the run of what `gen` prints.
 abbrev pub GeneratedRunsHaveFigures : Type 0
 GeneratedRunsHaveFigures =
     (given : Asked) (asked : Running) (made figures run : Answer) → CanGive given → AnswersGen given made → AnswersBench given figures
@@ -112,7 +112,7 @@ GeneratedRunsHaveFigures =
 
 -- ---- `nodes` and `run`
 
--- What two nodes print of a text is a prefix of what `run` prints.
+-- What `nodes` prints of a text is a prefix of what `run` prints.
 abbrev pub NodesPrintAPrefix : Type 0
 NodesPrintAPrefix =
     (asked : Running) (split : Splitting) (text : List ℕ) (nodes run : Answer) → AnswersNodes split text nodes → AnswersRun asked text run

@@ -1,8 +1,8 @@
--- What `save` and `resume` answer, and by which rules they refuse a text.
+-- The answers of `save` and `resume`, and the rules by which they refuse a text.
 --
---   rule 31   the trace has no position of the number that is asked for
+--   rule 31   the trace has no position with the number that is asked for
 --   rule 32   the text saves no position
---   rule 33   a run of the system may stand at no such position
+--   rule 33   a run of the system can be at no such position
 use Rattle.std.specs.Prelude.{◌≡◌, ◌⊎◌, ℕ, ◌+◌, ◌≤◌, List, drop, length}
 use Rattle.command_line.specs.Commands.{saved_limit}
 use Rattle.cosim_answers.specs.Accepted.{OnAccepted, RefusesAlso, planned, status_of, traced_notes}
@@ -23,7 +23,7 @@ use Rattle.unit_tree.specs.declared.system.System.{System}
 
 -- ---- `save`
 
--- By the saved text of the position of this number in the system's trace.
+-- The answer is the saved text of the position with this number in the system's trace.
 pub record TellsPosition (row : ℕ) (system : System) (answer : Answer) : Type 0 where
   pub at : Position
   pub is_position : IsPositionOf (run_of system) row at
@@ -32,7 +32,7 @@ pub record TellsPosition (row : ℕ) (system : System) (answer : Answer) : Type 
 abbrev pub AnswersSave : ℕ → List ℕ → Answer → Type 0
 AnswersSave row = OnAccepted (TellsPosition row)
 
--- The trace of the system has no position of this number: rule 31.
+-- The trace of the system has no position with this number: rule 31.
 abbrev pub LacksPosition : ℕ → System → Type 0
 LacksPosition row system = HasNoPosition (run_of system) row
 
@@ -41,21 +41,21 @@ SaveRefuses row = RefusesAlso (LacksPosition row) 31
 
 -- ---- `resume`
 
--- What stands in a text behind the lines that save a position, and how many lines these are.
+-- The text after the lines that save a position, and how many lines these are.
 abbrev pub text_behind : List ℕ → Saved → List ℕ
 text_behind text saved = drop saved.rest text
 
 abbrev pub lines_before : Saved → ℕ
 lines_before saved = 3 + length saved.names
 
--- A text that is short enough saves a position, and the text behind is accepted as a system.
+-- A text that is short enough saves a position, and the text after it is accepted as a system.
 pub record SavesIn (text : List ℕ) (saved : Saved) (system : System) : Type 0 where
   pub within : length text ≤ saved_limit
   pub saves : IsSaved text saved
   pub lines : List ℕ
   pub accepted : IsAcceptedAs (text_behind text saved) system lines
 
--- The lines of rows, without a header, and how and where the run ended, as what is run of the system ended.
+-- The lines of rows, without a header, and how and where the run of the plain form ended.
 abbrev pub resumed_answer : System → List Row → Point → Ending → Answer
 resumed_answer system rows last ending = record {
   out = lines_of system rows;
@@ -63,7 +63,7 @@ resumed_answer system rows last ending = record {
   status = status_of ending;
 }
 
--- By the rest of the position.
+-- The answer is the rest of the position.
 pub record TellsRest (system : System) (at : Position) (answer : Answer) : Type 0 where
   pub rows : List Row
   pub last : Point
@@ -71,7 +71,7 @@ pub record TellsRest (system : System) (at : Position) (answer : Answer) : Type 
   pub rest : IsRest (run_of system) at rows last ending
   pub is : answer ≡ resumed_answer system rows last ending
 
--- By the rest of the position that a text saves.
+-- The answer is the rest of the position that a text saves.
 pub record AnswersResume (text : List ℕ) (answer : Answer) : Type 0 where
   pub saved : Saved
   pub system : System
@@ -80,13 +80,13 @@ pub record AnswersResume (text : List ℕ) (answer : Answer) : Type 0 where
   pub fits : FitsSaved (planned system) saved at
   pub tells : TellsRest system at answer
 
--- It saves no position: rule 32, at the first line that is lacking or has another form.
+-- The text saves no position: rule 32, at the first line that is missing or has another form.
 pub record SavesNone (text : List ℕ) (line rule : ℕ) : Type 0 where
   pub within : length text ≤ saved_limit
   pub breaks : BreaksAtLine text line
   pub by : rule ≡ 32
 
--- The text behind is refused. The line is told by its number in the whole text.
+-- The text after the lines is refused. The line is counted in the whole text.
 pub record RefusesBehind (text : List ℕ) (line rule : ℕ) : Type 0 where
   pub within : length text ≤ saved_limit
   pub saved : Saved
@@ -95,7 +95,7 @@ pub record RefusesBehind (text : List ℕ) (line rule : ℕ) : Type 0 where
   pub refused : IsRefusedAt (text_behind text saved) behind rule
   pub at : line ≡ lines_before saved + behind
 
--- A run of the system may stand at no position that is saved: rule 33, at line 1.
+-- A run of the system can be at no position that fits what is saved: rule 33, at line 1.
 pub record LacksMatch (text : List ℕ) (line rule : ℕ) : Type 0 where
   pub saved : Saved
   pub system : System

@@ -1,7 +1,7 @@
--- What `verify` and `stimulus` answer, and by which rules they refuse their input.
+-- The answers of `verify` and `stimulus`, and the rules by which they refuse their input.
 --
---   rule 35   no line parts a text from the table behind it
---   rule 36   the table leaves the form of a table of stimulus
+--   rule 35   there is no line between a text and the table after it
+--   rule 36   the table doesn't have the form of a table of stimulus
 use Rattle.std.specs.Prelude.{◌≡◌, ◌⊎◌, ℕ, List, ◌++◌, codes}
 use Rattle.std.specs.Fmt.{decimal}
 use Rattle.event_runs.specs.EventRuns.{IsEventTraceOf}
@@ -25,12 +25,13 @@ use Rattle.cosim_answers.specs.Limits.{AnswersWithin, RefusesWithin}
 
 -- ---- `verify`
 
--- `yes`; or `no` with the number of the first record that is another one, and with that of its first field that is.
+-- `yes`; or `no` with the number of the first record that differs, and the number of its first field that differs.
 abbrev pub verdict_text : Verdict → List ℕ
 verdict_text Yes = codes "yes" ++ line_end
 verdict_text (No number column) = codes "no " ++ decimal number ++ codes " " ++ decimal column ++ line_end
 
--- By the verdict on the records of a table, which should be those of the text of the system's trace. How the trace ends doesn't matter.
+-- The answer is the verdict on the records of a table, which should be those of the text of the system's trace. How the trace ends
+-- doesn't matter.
 pub record TellsVerdict (table : List ℕ) (system : System) (answer : Answer) : Type 0 where
   pub rows : List EventRow
   pub last : Point
@@ -38,14 +39,14 @@ pub record TellsVerdict (table : List ℕ) (system : System) (answer : Answer) :
   pub trace : IsEventTraceOf system rows last ending
   pub is : answer ≡ piece_answer (verdict_text (verdict_of (records_of (traced_text system rows)) (records_of table)))
 
--- A line parts a text from the table behind it, and the text is accepted as a system.
+-- The input has a line between a text and the table after it, and the text is accepted as a system.
 pub record AnswersTable (input : List ℕ) (answer : Answer) : Type 0 where
   pub front : List ℕ
   pub table : List ℕ
   pub parted : IsParted input front table
   pub told : OnAccepted (TellsVerdict table) front answer
 
--- No line parts the input: rule 35, at line 1.
+-- The input has no such line: rule 35, at line 1.
 pub record LacksTable (input : List ℕ) (line rule : ℕ) : Type 0 where
   pub none : LacksTrace input
   pub at : line ≡ 1
@@ -69,13 +70,13 @@ VerifyRefuses = RefusesWithin verify_limit RefusesTable
 
 -- ---- `stimulus`
 
--- By the canonical text of the system that plays the table.
+-- The answer is the canonical text of the system that plays the table.
 pub record PlaysTable (input : List ℕ) (answer : Answer) : Type 0 where
   pub system : System
   pub plays : IsSystemOf (records_of input) system
   pub is : answer ≡ printed_answer system
 
--- The table leaves the form: rule 36. In place of a line, the number of the record is told.
+-- The table doesn't have the form: rule 36. The number of the record is reported instead of a line.
 pub record LeavesTable (input : List ℕ) (line rule : ℕ) : Type 0 where
   pub leaves : LeavesForm (records_of input) line
   pub by : rule ≡ 36

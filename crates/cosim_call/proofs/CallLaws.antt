@@ -1,4 +1,4 @@
--- The five clauses of a call, from what its command came to and what was told of it.
+-- The five clauses of a call, from the result of its command and the report of it.
 use Rattle.std.proofs.Common.{◌≡◌, ℕ, ◌<◌, ◌⊎◌, List, [], ◌∷◌, length, append-nil, Option, Some, None, Result, Ok, Err, refl, sym, ap, subst, inl, inr, arith}
 use Rattle.std.specs.Prelude.{IfSome}
 use Rattle.std.specs.Io.KnownBytes.{Appends, IsAtEnd}
@@ -17,7 +17,7 @@ use Rattle.cosim_call.specs.declared.status.Status.TheVariants as status
 
 -- ---- From a status and its text to the clauses
 
--- what stands before a text is told with its status
+-- The facts from which the clauses follow: what happened before the notes, and the notes with their status.
 pub record Facts (input : Option ℕ) (IsAnswer : List ℕ → Answer → Type 0) (source source' out out' : Stream) (wanted : Status)
     (text_of_note : List ℕ) : Type 0 where
   pub front : BeginsAnswer IsAnswer source out out'
@@ -34,7 +34,7 @@ pub record Facts (input : Option ℕ) (IsAnswer : List ℕ → Answer → Type 0
       → IsAtEnd source'.bytes ⊎ ((wanted ≡ status.Refused) × IfSome source.bytes (λ text. limit < length text))
   pub taken : TakesAtMost input source source'
 
--- each status is one of an answer, or a fault's
+-- Each status is one of an answer, or that of a fault.
 data IsKind (given : Status) : Type 0 where
   answers : IsOwn given → IsKind given
   fails : (given ≡ status.ReadFault) ⊎ (given ≡ status.WriteFault) → IsKind given
@@ -61,7 +61,7 @@ mapped {A} {B} IsAnswer source f has = by source.bytes has
     by None has = tt
     by (Some text) (answer, is, so) = (answer, is, f answer so)
 
--- the notes hold a front of a text that notes may have
+-- The notes have a prefix of a text that notes may have.
 noted : (IsAnswer : List ℕ → Answer → Type 0) (left before now : Option (List ℕ)) (text_of_note : List ℕ) → AppendsPrefix before now text_of_note
     → ((text : List ℕ) → IsNotesText IsAnswer text text_of_note)
     → IfSome left (λ text. (notes : List ℕ) × IsNotesText IsAnswer text notes × AppendsPrefix before now notes)
@@ -103,7 +103,7 @@ answer_by input IsAnswer before now wanted text_of_note facts told quiet more (f
 answer_by input IsAnswer before now wanted text_of_note facts told quiet more (fails (inr is)) = absurd (quiet.out (facts.write_fault is).0)
 answer_by input IsAnswer before now wanted text_of_note facts told quiet more (wants is) = absurd (more is)
 
--- the text was told
+-- The text was written to the notes.
 promises_same : (input : Option ℕ) (IsAnswer : List ℕ → Answer → Type 0) (before now : Streams) (wanted : Status) (text_of_note : List ℕ)
     → Facts input IsAnswer before.source now.source before.out now.out wanted text_of_note → Appends before.notes.bytes now.notes.bytes text_of_note
     → now.notes.faults ≡ before.notes.faults → Promises input IsAnswer before now wanted
@@ -128,13 +128,13 @@ promises_same input IsAnswer before now wanted text_of_note facts told same = re
   };
 }
 
--- a fault of writing is none of these
+-- A write fault is none of these.
 no_write_fault : (status.WriteFault ≡ status.Usage) ⊎ ((status.WriteFault ≡ status.Refused) ⊎ (status.WriteFault ≡ status.ReadFault)) → ⊥
 no_write_fault (inl is) = cc
 no_write_fault (inr (inl is)) = cc
 no_write_fault (inr (inr is)) = cc
 
--- telling it failed
+-- Writing it to the notes failed.
 promises_failed : (input : Option ℕ) (IsAnswer : List ℕ → Answer → Type 0) (before now : Streams) (wanted : Status) (text_of_note : List ℕ)
     → Facts input IsAnswer before.source now.source before.out now.out wanted text_of_note → AppendsPrefix before.notes.bytes now.notes.bytes text_of_note
     → Fails before.notes now.notes → Promises input IsAnswer before now status.WriteFault
@@ -168,7 +168,7 @@ promises_told input IsAnswer before now wanted given text_of_note facts (inl (is
 promises_told input IsAnswer before now wanted given text_of_note facts (inr (is, front, rose)) =
     subst (Promises input IsAnswer before now) (sym is) (promises_failed input IsAnswer before now wanted text_of_note facts front rose)
 
--- ---- The facts of each way to come to an end
+-- ---- The facts of each way to end
 
 no_greater : (before now : Stream) → now.faults ≡ before.faults → before.faults < now.faults → ⊥
 no_greater before now same more = omega (arith, same, more)
@@ -266,7 +266,7 @@ ends_other given end (inr (inr is)) = absurd (subst IsEndOfWork is end)
 one_line : (line : List ℕ) → whole (line ∷ []) ≡ line
 one_line line = append-nil line
 
--- The five clauses of a call whose command came to its end by some way, and was told.
+-- The five clauses of a call whose command has a result that was reported.
 pub promises_kept : (input : Option ℕ) (IsAnswer : List ℕ → Answer → Type 0) (before now : Streams) (came : Result Served Stopped) (given : Status)
     → Comes input IsAnswer before.source now.source before.out now.out came → TellsEnd came before.notes now.notes given
     → Promises input IsAnswer before now given

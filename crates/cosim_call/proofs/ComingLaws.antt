@@ -1,4 +1,4 @@
--- From what a command did with a whole text to what the call came to.
+-- From the result of a command on a whole text to the result of the call.
 use Rattle.std.proofs.Common.{◌≡◌, ℕ, ◌<◌, List, [], ◌∷◌, length, Option, Some, None, Result, Ok, Err, inl, inr, refl, sym, ap, subst}
 use Rattle.std.proofs.lemmas.Option.{same_Some}
 use Rattle.std.specs.Prelude.{IfSome, Vec}
@@ -16,13 +16,13 @@ use Rattle.cosim_call.specs.declared.coming.Stopped.{Stopped}
 use Rattle.cosim_call.specs.declared.coming.Stopped.TheVariants as stopped
 use Rattle.cosim_call.specs.declared.status.Status.TheVariants as status
 
--- what a call asks of the relation: an answer for each input, and the refusal of one that is too long
+-- What a call requires of the relation: an answer for each input, and the refusal of one that is too long.
 pub record IsAnswered (input : Option ℕ) (IsAnswer : List ℕ → Answer → Type 0) : Type 0 where
   pub some : (text : List ℕ) → (answer : Answer) × IsAnswer text answer
   pub long : (limit : ℕ) (text : List ℕ) → input ≡ Some limit → limit < length text → IsAnswer text (refused_answer 1 2)
   pub free : input ≡ None → (one other : List ℕ) (answer : Answer) → IsAnswer one answer → IsAnswer other answer
 
--- a text that was read, of a source that tells it
+-- A text that was read, from a source whose contents are known.
 read_text : (A : List ℕ → Type 0) (left : Option (List ℕ)) (text : List ℕ) → IfSome left (λ all. text ≡ all) → A text → IfSome left A
 read_text A None text is a = tt
 read_text A (Some all) text is a = subst A is a
@@ -31,7 +31,7 @@ any_text : {A : List ℕ → Type 0} (left : Option (List ℕ)) → ((text : Lis
 any_text None a = tt
 any_text (Some text) a = a text
 
--- nothing was put
+-- Nothing was written.
 pub nothing_put : (input : Option ℕ) (IsAnswer : List ℕ → Answer → Type 0) (source out out' : Stream) → IsAnswered input IsAnswer → out'.bytes ≡ out.bytes
     → BeginsAnswer IsAnswer source out out'
 nothing_put input IsAnswer source out out' lawful same =
@@ -45,7 +45,7 @@ front_of IsAnswer out out' text some (inl same) =
     (some.0, some.1, subst (λ (b : Option (List ℕ)). AppendsPrefix out.bytes b some.0.out) (sym same) (AppendsPrefix-nil out.bytes some.0.out))
 front_of IsAnswer out out' text some (inr begins) = begins
 
--- what holds of the text that a call goes on with holds of what the source had left
+-- What holds of the text with which a call goes on holds of what was left in the source.
 abbrev HasRead : Option ℕ → Stream → Stream → List ℕ → Type 0
 HasRead None source source' text = source' ≡ source
 HasRead (Some limit) source source' text = IfSome source.bytes (λ left. text ≡ left) × IsAtEnd source'.bytes × (source'.faults ≡ source.faults)
@@ -59,7 +59,7 @@ at_end : (input : Option ℕ) (source source' : Stream) (text : List ℕ) → Ha
 at_end None source source' text read limit is = absurd (cc)
 at_end (Some most) source source' text read limit is = read.1
 
--- an answer for the text is one for what was left
+-- An answer for the text is one for what was left.
 answer_left : (input : Option ℕ) (IsAnswer : List ℕ → Answer → Type 0) (IsSo : Answer → Type 0) (source source' : Stream) (text : List ℕ)
     → IsAnswered input IsAnswer → HasRead input source source' text → ((answer : Answer) × IsAnswer text answer × IsSo answer) → HasAnswer IsAnswer source IsSo
 answer_left None IsAnswer IsSo source source' text lawful read (answer, is, so) =
@@ -111,7 +111,7 @@ read_is : (input : Option ℕ) (source source' : Stream) (text : Vec ℕ Global)
 read_is None source source' text reads = reads.1
 read_is (Some limit) source source' text reads = reads
 
--- A command that read its input, and did with the text what it owes.
+-- A command that read its input, and did with the text what it has to.
 pub comes_whole : (input : Option ℕ) (IsAnswer : List ℕ → Answer → Type 0) (source source' out out' : Stream) (text : Vec ℕ Global)
     (came : Result Served Stopped) → IsAnswered input IsAnswer → ReadsInput input source source' (Ok text) → TakesAtMost input source source'
     → Serves (IsAnswer text.items) out out' came → Comes input IsAnswer source source' out out' came
@@ -127,7 +127,7 @@ too_long : (limit : ℕ) (IsAnswer : List ℕ → Answer → Type 0) (out : Stre
 too_long limit IsAnswer out None lawful long = tt
 too_long limit IsAnswer out (Some text) lawful long = (refused_answer 1 2, lawful.long limit text refl long, (Appends-nil out.bytes, refl, refl))
 
--- A command whose input could not be read. Nothing was put.
+-- A command whose input could not be read. Nothing was written.
 pub comes_unread : (input : Option ℕ) (IsAnswer : List ℕ → Answer → Type 0) (source source' out : Stream) (why : Stopped) → IsAnswered input IsAnswer
     → ReadsInput input source source' (Err why) → TakesAtMost input source source' → Comes input IsAnswer source source' out out (Err why)
 comes_unread None IsAnswer source source' out why lawful reads taken = absurd reads
@@ -167,7 +167,7 @@ not_made IsAnswer out stopped.NoMemory makes = (inl refl, refl)
 not_made IsAnswer out stopped.ReadFault makes = absurd makes
 not_made IsAnswer out stopped.WriteFault makes = absurd makes
 
--- A command that makes one piece does what it owes.
+-- A command that makes one piece does what it has to.
 pub serves_made : (IsAnswer : Answer → Type 0) (out out' : Stream) (made : Result (Vec ℕ Global) Stopped) (result : Result Served Stopped) → Makes IsAnswer made
     → PutsMade made out out' result → Serves IsAnswer out out' result
 serves_made IsAnswer out out' (Ok bytes) result makes puts = puts_made IsAnswer out out' bytes.items result makes puts

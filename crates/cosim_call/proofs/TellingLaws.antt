@@ -1,4 +1,4 @@
--- Lines that are told one after the other.
+-- Lines that are written to the notes one after the other.
 use Rattle.std.proofs.Common.{◌≡◌, ℕ, ◌≤◌, ◌-◌, List, [], ◌∷◌, ◌++◌, length, take, drop, get_or, Option, Result, Ok, Err, subst, arith}
 use Rattle.std.proofs.lemmas.List.{take_all}
 use Rattle.std.specs.Prelude.{OnErr}
@@ -7,7 +7,7 @@ use Rattle.cosim_io.specs.Pieces.{AppendsPrefix}
 use Rattle.cosim_io.proofs.PieceLemmas.{AppendsPrefix-after}
 use Rattle.cosim_call.specs.Notes.{whole}
 
--- a line that was told, and then some of the others
+-- A line that was written, and then some of the others.
 pub front_after : {T E : Type 0} (a b c : Option (List ℕ)) (first : List ℕ) (rest : List (List ℕ)) (result : Result T E) → Appends a b first
     → OnErr result (AppendsPrefix b c (whole rest)) → OnErr result (AppendsPrefix a c (first ++ whole rest))
 front_after a b c first rest (Ok value) told front = tt

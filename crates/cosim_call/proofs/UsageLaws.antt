@@ -1,4 +1,4 @@
--- The five clauses of a call whose words have no form: it reads nothing and puts nothing.
+-- The five clauses of a call whose words have no form: it reads nothing and writes nothing.
 use Rattle.std.proofs.Common.{◌≡◌, ℕ, ◌⊎◌, List, [], ◌∷◌, append-nil, Option, Some, None, Result, Ok, Err, inl, inr, refl, sym, subst, ◌∙◌}
 use Rattle.std.specs.Prelude.{IfSome}
 use Rattle.std.specs.Io.KnownBytes.{Appends}
@@ -15,7 +15,7 @@ use Rattle.cosim_call.specs.declared.status.Status.{Status}
 use Rattle.cosim_call.specs.declared.status.Status.TheVariants as status
 use Rattle.cosim_call.proofs.CallLaws.{Facts, facts_answer, promises_told}
 
--- the answer for words without a form
+-- The answer for words without a form.
 abbrev pub IsUsage : List ℕ → Answer → Type 0
 IsUsage text answer = answer ≡ usage_answer
 
@@ -36,9 +36,9 @@ promises_usage source out notes notes' given told =
     (subst (Facts None IsUsage source source out out status.Usage) (append-nil usage_note)
     (facts_answer None IsUsage source source out out status.Usage (usage_note ∷ []) refl tt (λ _. refl) (comes source out))) told
 
--- ---- Usage is told of no other call, and of this one alone
+-- ---- Usage is the status of this call, and of no other
 
--- its note is told with it, or can't be told
+-- Its note is written with it, or can't be written.
 pub usage_due : (notes notes' : Stream) (given : Status) → Tells usage_note status.Usage notes notes' given
     → (given ≡ status.Usage) ⊎ (given ≡ status.WriteFault)
 unfolding Tells
@@ -54,7 +54,7 @@ other_told text wanted given notes notes' other (inr failed) usage = write_fault
     write_fault : status.WriteFault ≡ status.Usage → ⊥
     write_fault is = cc
 
--- a command comes to other statuses
+-- A command has other statuses.
 pub never_usage : (input : Option ℕ) (IsAnswer : List ℕ → Answer → Type 0) (source source' out out' notes notes' : Stream)
     (came : Result Served Stopped) (given : Status) → Comes input IsAnswer source source' out out' came → TellsEnd came notes notes' given
     → given ≡ status.Usage → ⊥

@@ -1,4 +1,4 @@
-//! What a command comes to, before it is told.
+//! The result of a command, before it is reported.
 ghost use Rattle.std.specs.Prelude.{◌≡◌};
 ghost use Rattle.cosim_call.specs.Calls.{TakesAtMost, stream};
 ghost use Rattle.cosim_call.specs.Coming.{ReadsInput, IsInLimit, PutsPiece, PutsMade};
@@ -9,17 +9,17 @@ use fixed_words::{List, NoMemory};
 use model_rules::Rule;
 use std::alloc::{AllocFailed, Global};
 
-/// A command did its work, and put what its answer puts: how it ended, and the lines of its notes, which are told now.
+/// A command did its work, and wrote the bytes of its answer: its status, and the lines of its notes, which are still to be written.
 #[derive(Debug, Drop)]
 pub struct Served {
     pub status: Status,
     pub notes: List<List<u8>>,
 }
 
-/// Why a command did not come to an end of its own.
+/// Why a command did not end by a status of its own.
 #[derive(Clone, Copy, Debug, PartialEq, Eq)]
 pub enum Stopped {
-    /// The text breaks a rule. Nothing was put.
+    /// The text breaks a rule. Nothing was written.
     Refused { line: u32, rule: u8 },
     ReadFault,
     WriteFault,
@@ -46,7 +46,7 @@ impl<T: Drop> From<AllocFailed<T>> for Stopped {
     }
 }
 
-/// Reads the whole input of a command that takes at most so many bytes, or nothing for a command that reads none.
+/// Reads the whole input of a command that takes at most `input` bytes. A command without input, `None`, gets no bytes.
 pub fn read_input<S: Source>(
     alloc: Global,
     source: &mut S,
@@ -70,7 +70,7 @@ pub fn read_input<S: Source>(
     }
 }
 
-/// Puts the one piece of a command that did its work and has nothing to note.
+/// Writes the one piece of a command that did its work and has no notes.
 fn put_piece<O: Sink>(alloc: Global, bytes: &[u8], out: &mut O) -> Result<Served, Stopped>
     ensures { PutsPiece bytes.now (stream (O.held out.old) (O.faults out.old)) (stream (O.held out.new) (O.faults out.new)) result }
 {
@@ -81,7 +81,7 @@ fn put_piece<O: Sink>(alloc: Global, bytes: &[u8], out: &mut O) -> Result<Served
     })
 }
 
-/// Puts the one piece of a command that makes one, if it made it.
+/// Writes the one piece of a command that makes one, if it made it.
 pub fn put_made<O: Sink>(
     alloc: Global,
     made: Result<Vec<u8>, Stopped>,

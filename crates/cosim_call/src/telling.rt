@@ -1,4 +1,4 @@
-//! What a call came to is told.
+//! Reporting the result of a call.
 ghost use Rattle.std.specs.Prelude.{◌≡◌, [], IfOk, IsOk, OnOk, OnErr};
 ghost use Rattle.std.specs.Io.KnownBytes.{Appends};
 ghost use Rattle.cosim_io.specs.Faults.{HasCause};
@@ -14,7 +14,7 @@ use cosim_io::{Failed, Sink};
 use fixed_words::List;
 use std::alloc::Global;
 
-/// Tells one line with the status that it is for.
+/// Writes one line to the notes. Returns the status that belongs to it, or a write fault.
 #[tactic(auto, unfolding(crate::specs::Telling::Tells))]
 pub fn tell<N: Sink>(notes: &mut N, line: &[u8], status: Status) -> Status
     ensures { Tells line.now status (stream (N.held notes.old) (N.faults notes.old)) (stream (N.held notes.new) (N.faults notes.new)) result }
@@ -25,7 +25,7 @@ pub fn tell<N: Sink>(notes: &mut N, line: &[u8], status: Status) -> Status
     }
 }
 
-/// Puts each line in one piece, up to the first put that fails.
+/// Writes each line in one piece, up to the first write that fails.
 #[tactic(auto, using(cosim_io::proofs::PieceLemmas::piece_laws))]
 fn put_lines<N: Sink>(notes: &mut N, lines: &[List<u8>]) -> Result<(), Failed>
     ensures whole { OnOk result (Appends (N.held notes.old) (N.held notes.new) (whole lines.now)) }
@@ -42,7 +42,7 @@ fn put_lines<N: Sink>(notes: &mut N, lines: &[List<u8>]) -> Result<(), Failed>
     }
 }
 
-/// Tells the lines of a command that did its work.
+/// Reports the lines of a command that did its work.
 #[tactic(auto, unfolding(crate::specs::Telling::Tells))]
 fn tell_served<N: Sink>(notes: &mut N, served: &Served) -> Status
     ensures told { Tells (whole served.now.notes) served.now.status (stream (N.held notes.old) (N.faults notes.old)) (stream (N.held notes.new) (N.faults notes.new)) result }
@@ -54,7 +54,7 @@ fn tell_served<N: Sink>(notes: &mut N, served: &Served) -> Status
     }
 }
 
-/// Tells why a command did not come to an end of its own.
+/// Reports why a command did not end by a status of its own.
 fn tell_stopped<N: Sink>(alloc: Global, notes: &mut N, why: Stopped) -> Status
     ensures { TellsStop why (stream (N.held notes.old) (N.faults notes.old)) (stream (N.held notes.new) (N.faults notes.new)) result }
 {
@@ -69,8 +69,8 @@ fn tell_stopped<N: Sink>(alloc: Global, notes: &mut N, why: Stopped) -> Status
     }
 }
 
-/// Tells what a command came to, by the notes and with the status of it. Where it has none the notes are not asked: they stay
-/// as they are, whatever they would answer.
+/// Reports the result of a command: writes its notes and returns its status. Without notes nothing is written, so the notes stay as
+/// they are and can't fail.
 pub fn finish<N: Sink>(alloc: Global, notes: &mut N, came: Result<Served, Stopped>) -> Status
     ensures told { TellsEnd came (stream (N.held notes.old) (N.faults notes.old)) (stream (N.held notes.new) (N.faults notes.new)) result }
     ensures none { IfOk came (λ served. served.notes ≡ [] → (notes.new ≡ notes.old) × (result ≡ served.status)) }

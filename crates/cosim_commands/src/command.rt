@@ -19,7 +19,7 @@ use std::sync::Wait;
 use std::thread::Threads;
 use work_crew::{Gate, OpenGate};
 
-/// A command on its whole text, in the calling thread.
+/// Serves a command on its whole text, in the calling thread.
 #[tactic(auto, using(cosim_call::proofs::ComingLaws::serves_made))]
 fn serve<O: Sink>(
     alloc: Global,
@@ -47,7 +47,7 @@ fn serve<O: Sink>(
     }
 }
 
-/// A command that has workers on its whole text, with these.
+/// Serves a command that has workers on its whole text, with these workers.
 #[tactic(auto, using(cosim_call::proofs::ComingLaws::serves_made))]
 fn serve_crewed<R: Threads + Wait + Copy + Send + Drop + 'static, O: Sink, G: Gate>(
     rt: R,
@@ -77,7 +77,7 @@ fn serve_crewed<R: Threads + Wait + Copy + Send + Drop + 'static, O: Sink, G: Ga
     }
 }
 
-/// A command on what the source has left, as far as it asks for it, in the calling thread.
+/// Serves a command on what is left in the source, as far as it reads it, in the calling thread.
 fn come<S: Source, O: Sink>(
     alloc: Global,
     command: &Command,
@@ -93,7 +93,7 @@ fn come<S: Source, O: Sink>(
     serve(alloc, command, &text, out)
 }
 
-/// The same of a command that has workers, with these.
+/// The same for a command that has workers, with these workers.
 fn come_crewed<R: Threads + Wait + Copy + Send + Drop + 'static, S: Source, O: Sink, G: Gate>(
     rt: R,
     alloc: Global,
@@ -114,8 +114,8 @@ fn come_crewed<R: Threads + Wait + Copy + Send + Drop + 'static, S: Source, O: S
 
 /// Serves every form of words in the calling thread, and returns.
 ///
-/// The words are those behind the program's name. The output gets the bytes of the command, the notes get its lines, and the
-/// answer is the status of the call.
+/// `words` are those after the program's name. The bytes of the command go to the output, and its lines to the notes. Returns the
+/// status of the call.
 pub fn cosim_alone<S: Source, O: Sink, N: Sink>(
     alloc: Global,
     words: &[String],
@@ -138,8 +138,8 @@ pub fn cosim_alone<S: Source, O: Sink, N: Sink>(
     }
 }
 
-/// The program: serves every form of words, with workers where these ask for some. `rt` is the leave to start threads and to wait,
-/// and the gate says how long a run waits for its workers; no promise depends on it. Where no workers are asked for, the call is
+/// The program: serves every form of words, with workers where these ask for some. `rt` is the permission to start threads and to
+/// wait. The gate says how long a run waits for its workers; no promise depends on it. Where no workers are asked for, the call is
 /// [`cosim_alone`].
 pub fn cosim_gated<
     R: Threads + Wait + Copy + Send + Drop + 'static,

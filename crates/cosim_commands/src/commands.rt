@@ -1,4 +1,4 @@
-//! The commands, one a module. A command that makes one piece has a `make`, any other a `serve`.
+//! The commands, one for each module. A command that makes one piece has a `make`, and any other a `serve`.
 ghost use Rattle.cosim_answers.specs.Serving.{Accepts};
 
 pub(crate) mod bench;

@@ -1,8 +1,8 @@
 //! The commands of `cosim`, and the calls that serve them.
 //!
-//! The call that the program makes is [`cosim_gated`], over any source and sinks of bytes; its clause, a record of five, is the headline,
-//! and [`cosim`] and [`cosim_alone`] have the same. What an answer is, and the laws of answers, are those of `cosim_answers`; the five
-//! clauses of a call are those of `cosim_call`.
+//! The program calls [`cosim_gated`], with any source and sinks of bytes. Its contract, a record of five clauses, is the main theorem of
+//! the project. [`cosim`] and [`cosim_alone`] have the same contract. `cosim_answers` defines what an answer is, and has the laws of
+//! answers. `cosim_call` defines the five clauses of a call.
 #![tactic(auto)]
 
 mod command;

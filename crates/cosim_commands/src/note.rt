@@ -16,7 +16,7 @@ use trace_core::Plan;
 use trace_rows::Report;
 use unit_tree::{Ending, Place, Point, System, Unit};
 
-/// The number by which notes tell a fault.
+/// Returns the number that notes have for a fault.
 fn number(fault: Fault) -> u8
     ensures { result ≡ fault_number fault }
 {
@@ -29,7 +29,7 @@ fn number(fault: Fault) -> u8
     }
 }
 
-/// Ends a note by the point that it tells, its time in seconds with `resolution` decimals.
+/// Ends a note by a point, its time in seconds with `resolution` decimals.
 fn end_at(note: &mut Vec<u8>, resolution: u8, point: Point) -> Result<(), NoMemory>
     requires { resolution ≤ 9 }
     ensures { OnOk result (note.new.items ≡ note.old.items ++ (point_text resolution point ++ line_end)) }
@@ -39,7 +39,7 @@ fn end_at(note: &mut Vec<u8>, resolution: u8, point: Point) -> Result<(), NoMemo
     append_all(note, &[b",", index.format(point.n).as_bytes(), b"\n"])
 }
 
-/// The name of an instance by its number.
+/// Returns the name of an instance by its number.
 fn instance_name(system: &System, instance: u32) -> &[u8]
     ensures { result.now ≡ instance_name system.now instance }
 {
@@ -49,7 +49,7 @@ fn instance_name(system: &System, instance: u32) -> &[u8]
     }
 }
 
-/// The name of the output that an output of the unit's plain form is made of: behind the plain outputs stand two for each
+/// Returns the name of the output that an output of the unit's plain form comes from. After the plain outputs there are two for each
 /// event output.
 fn name_in(unit: &Unit, number: usize) -> &[u8]
     ensures { result.now ≡ name_in unit.now (output_read (event_shape unit.now) number) }
@@ -64,7 +64,7 @@ fn name_in(unit: &Unit, number: usize) -> &[u8]
     }
 }
 
-/// The name of the output that an output of the plain form is made of, by its number and its instance's.
+/// Returns the name of the output that an output of the plain form comes from, by its number and its instance's.
 fn output_name(system: &System, instance: u32, output: u32) -> &[u8]
     ensures { result.now ≡ output_name system.now instance (output_read (instance_shape system.now instance) output) }
 {
@@ -95,7 +95,7 @@ fn put_place(
     }
 }
 
-/// A fault of an instance in a place of the plain form at a point.
+/// Returns the note of a fault of an instance, in a place of the plain form, at a point.
 fn fault_note(
     alloc: Global,
     system: &System,
@@ -119,7 +119,7 @@ fn fault_note(
     Ok(note)
 }
 
-/// A budget that was spent at a point.
+/// Returns the note of a budget that was spent at a point.
 fn budget_note(
     alloc: Global,
     resolution: u8,
@@ -135,7 +135,7 @@ fn budget_note(
     Ok(note)
 }
 
-/// Adds the length of a step that was refused, and what was accepted of it.
+/// Adds the length of a step that was refused, and how much of it was accepted.
 fn put_lengths(note: &mut Vec<u8>, asked: u64, accepted: u64) -> Result<(), NoMemory>
     ensures { OnOk result (note.new.items ≡ note.old.items ++ lengths_text asked accepted) }
 {
@@ -151,7 +151,7 @@ fn put_lengths(note: &mut Vec<u8>, asked: u64, accepted: u64) -> Result<(), NoMe
     )
 }
 
-/// A step that an instance refused: its length, and what it accepted, in its local ticks.
+/// Returns the note of a step that an instance refused: its length, and how much was accepted, in local ticks.
 fn refused_step_note(
     alloc: Global,
     resolution: u8,
@@ -187,7 +187,7 @@ fn put_steps(note: &mut Vec<u8>, found: u64, own: u64) -> Result<(), NoMemory>
     put_count(note, b"own", own)
 }
 
-/// Adds how many tickets there were, and what became of them.
+/// Adds how many tickets there were, and how they ended.
 fn put_tickets(
     note: &mut Vec<u8>,
     tickets: u64,
@@ -203,7 +203,7 @@ fn put_tickets(
     put_count(note, b"lapsed", lapsed)
 }
 
-/// The counts of a replay.
+/// Returns the line of a replay's counts.
 pub(crate) fn counts(alloc: Global, counts: Counts) -> Result<Vec<u8>, NoMemory>
     ensures { IfOk result (λ note. note.items ≡ counts_text counts) }
 {
@@ -223,7 +223,7 @@ pub(crate) fn counts(alloc: Global, counts: Counts) -> Result<Vec<u8>, NoMemory>
     Ok(note)
 }
 
-/// The report of a run.
+/// Returns the line of a run's report.
 pub(crate) fn report(alloc: Global, report: Report) -> Result<Vec<u8>, NoMemory>
     ensures { IfOk result (λ note. note.items ≡ report_text report) }
 {
@@ -241,7 +241,7 @@ pub(crate) fn report(alloc: Global, report: Report) -> Result<Vec<u8>, NoMemory>
     Ok(note)
 }
 
-/// At which rows two nodes stand.
+/// Returns the line with the rows of two nodes.
 pub(crate) fn nodes(alloc: Global, first: u64, second: u64) -> Result<Vec<u8>, NoMemory>
     ensures { IfOk result (λ note. note.items ≡ nodes_text first second) }
 {
@@ -260,7 +260,7 @@ pub(crate) fn nodes(alloc: Global, first: u64, second: u64) -> Result<Vec<u8>, N
     Ok(note)
 }
 
-/// One line of notes.
+/// Returns one line of notes.
 fn one(alloc: Global, line: Vec<u8>) -> Result<List<List<u8>>, NoMemory>
     ensures { IfOk result (λ lines. lines ≡ line.items ∷ []) }
 {
@@ -269,7 +269,9 @@ fn one(alloc: Global, line: Vec<u8>) -> Result<List<List<u8>>, NoMemory>
     Ok(lines)
 }
 
-/// How the plain form of a system ended at its last point, by the names in the system: no line where it came to its stop.
+/// Returns the notes of how the plain form of a system ended at its last point, with the names of the system. There is
+/// no line where it came
+/// to its stop.
 fn ending_notes(
     alloc: Global,
     system: &System,
@@ -306,7 +308,7 @@ fn ending_notes(
     }
 }
 
-/// How the run of a plan ended at its last point: no line where it came to its stop.
+/// Returns the notes of how the run of a plan ended at its last point. There is no line where it came to its stop.
 pub fn ending(
     alloc: Global,
     plan: &Plan,

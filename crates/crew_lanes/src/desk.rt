@@ -10,14 +10,14 @@ use unit_answers::Proven;
 
 /// A lane for each instance, under a lock of its own. No thread holds two locks.
 ///
-/// What a lock holds is a lane with the facts of every lane; of which instance, no clause says. Whoever takes it asks.
+/// A lock's lane has the invariant of every lane. No clause says of which instance it is, so its user has to test that.
 #[derive(Drop)]
 pub struct Desk {
     lanes: Vec<Mutex<Lane>>,
     ghost few: { vec_len lanes ≤ 64 },
 }
 
-/// How many tickets were given out, and what became of them.
+/// How many tickets were made, and how they ended.
 #[derive(Clone, Copy)]
 pub struct TicketSums {
     pub tickets: u64,
@@ -27,7 +27,7 @@ pub struct TicketSums {
     pub lapsed: u64,
 }
 
-/// Adds the counts of a lane, whose other tickets lapsed.
+/// Adds the counts of a lane. Its other tickets lapsed.
 fn add(sums: TicketSums, counts: LaneCounts) -> TicketSums
     requires tickets { counts.tickets ≤ 2 ^ 32 }
     requires ended { counts.posted + counts.back ≤ counts.tickets }
@@ -45,7 +45,7 @@ fn add(sums: TicketSums, counts: LaneCounts) -> TicketSums
 }
 
 impl Desk {
-    /// The opened lanes of a plan.
+    /// Opens the lanes of a plan.
     pub fn open(alloc: Global, plan: &Plan) -> Result<Desk, NoMemory> {
         let mut lanes = Vec::new(alloc);
         for instance in 0..plan.instances() {
@@ -55,19 +55,19 @@ impl Desk {
         Ok(Desk { lanes })
     }
 
-    /// How many lanes there are.
+    /// Returns how many lanes there are.
     pub fn len(&self) -> usize
         ensures { result ≤ 64 }
     {
         self.lanes.len()
     }
 
-    /// The lock of an instance's lane.
+    /// Returns the lock of an instance's lane, or `None` where there is no such instance.
     pub fn lane(&self, instance: u32) -> Option<&Mutex<Lane>> {
         self.lanes.get(instance as usize)
     }
 
-    /// A ticket of an instance, if its lane gives one.
+    /// Returns a ticket of an instance, if its lane makes one.
     pub fn take<R: Wait>(
         &self,
         rt: &R,
@@ -80,7 +80,7 @@ impl Desk {
         }
     }
 
-    /// Posts the answers to a ticket. One that its lane hands back is dropped.
+    /// Posts the answers to a ticket. A ticket that its lane refuses is dropped.
     pub fn post<R: Wait>(&self, rt: &R, ticket: Ticket, answers: Vec<Proven>) {
         if let Some(lane) = self.lane(ticket.instance()) {
             let _ = lane.lock(rt).post(ticket, answers);
@@ -94,7 +94,7 @@ impl Desk {
         }
     }
 
-    /// The sums over all lanes, one after the other.
+    /// Returns the sums over all lanes, one after the other.
     pub fn sums<R: Wait>(&self, rt: &R) -> TicketSums
         ensures { result.tickets ≡ result.posted + result.back + result.lapsed }
     {

@@ -1,8 +1,8 @@
-//! The lanes of a run under a lock each, and how often each lane is published.
+//! The lanes of a run, each under its own lock, and how often each lane is published.
 //!
-//! [`Desk`] has the lane of each instance under a lock of its own, and [`TicketSums`] is what became of the tickets. [`Patience`] says
-//! in each phase whether a lane is published, withdrawn or left alone ([`Due`]). No row depends on either. The layer above,
-//! `work_crew`, shares a desk among its threads.
+//! [`Desk`] has the lane of each instance under a lock of its own, and [`TicketSums`] counts how the tickets ended. [`Patience`]
+//! decides in each phase whether a lane is published, withdrawn or left alone ([`Due`]). No row depends on either. The layer
+//! above, `work_crew`, shares a desk among its threads.
 #![tactic(auto)]
 
 mod desk;

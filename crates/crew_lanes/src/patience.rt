@@ -1,6 +1,6 @@
-//! How long a run goes on with lanes in which nothing is found, or in which it pays little to find something.
+//! How long a run goes on with lanes in which it finds nothing, or whose steps are too light to be worth finding.
 
-/// In so many phases something is looked for in vain before a lane is left alone. A worker needs some of them to get ahead.
+/// In so many phases in a row nothing may be found before a lane is left alone. A worker needs some of them to get ahead.
 const TRIES: u32 = 8;
 
 /// Phases for which a lane is left alone at first.
@@ -9,30 +9,30 @@ const SHORTEST_REST: u32 = 8;
 /// Phases for which a lane is left alone at most.
 const LONGEST_REST: u32 = 4096;
 
-/// A step of lower cost is made sooner than it is published, looked for and taken.
+/// A step of lower cost is made faster than it is published, looked for and taken.
 const LEAST_COST: u32 = 2_000;
 
-/// What becomes of a lane in a phase.
+/// What a run does with a lane in a phase.
 #[derive(Clone, Copy, Debug, PartialEq, Eq)]
 pub enum Due {
     /// It is published.
     Publish,
-    /// It is published with nothing planned, so that it gives no tickets while it is left alone.
+    /// It is published without planned steps, so that it makes no tickets while it is left alone.
     Withdraw,
     /// It is left as it is.
     Nothing,
 }
 
-/// Whether a lane is published and looked into, or left alone for some phases, so that it costs little where workers don't help.
+/// Whether a lane is published and looked into, or left alone for some phases. So it costs little where workers don't help.
 ///
-/// A lane in which nothing is found again and again, since its guesses are wrong or steps are made sooner than they are answered, is
-/// left alone twice as long each time. One in which something is found is published in each phase. A lane of light steps is left alone
-/// for the longest time whenever it was looked into.
+/// A lane in which nothing is found again and again is left alone twice as long each time. Its guesses are wrong, or its steps are
+/// made before they are answered. A lane in which something is found is published in each phase. A lane of light steps is left
+/// alone for the longest time after each look.
 #[derive(Clone, Copy, Debug, PartialEq, Eq)]
 pub struct Patience {
-    /// Whether it pays to find a step.
+    /// Whether finding a step saves time.
     pays: bool,
-    /// In how many phases something may yet be looked for in vain.
+    /// In how many further phases nothing may be found.
     tries: u32,
     /// Whether the lane is left alone in this phase.
     rests: bool,
@@ -43,7 +43,7 @@ pub struct Patience {
 }
 
 impl Patience {
-    /// That with a lane which nobody has looked into, by the cost of a step.
+    /// Returns that of a lane which nobody has looked into, by the cost of a step.
     pub fn new(cost: u32) -> Patience {
         if cost < LEAST_COST {
             Patience {
@@ -58,7 +58,7 @@ impl Patience {
         }
     }
 
-    /// That with a lane in which something was found that it paid to find.
+    /// Returns that of a lane in which something worth finding was found.
     fn fresh() -> Patience {
         Patience {
             pays: true,
@@ -69,7 +69,7 @@ impl Patience {
         }
     }
 
-    /// Begins a phase, and tells what becomes of the lane in it.
+    /// Begins a phase. Returns what the run does with the lane in it.
     pub fn begin_phase(&mut self) -> Due {
         if self.left == 0 {
             self.rests = false;
@@ -84,12 +84,12 @@ impl Patience {
         }
     }
 
-    /// Whether the lane is left alone in this phase.
+    /// Returns whether the lane is left alone in this phase.
     pub fn rests(&self) -> bool {
         self.rests
     }
 
-    /// Tells whether something was found in this phase.
+    /// Records whether something was found in this phase.
     pub fn tell(&mut self, found: bool) {
         if found && self.pays {
             *self = Patience::fresh();

@@ -1,4 +1,4 @@
-//! Runs with workers that answer, and without any.
+//! Runs with workers that answer, and without workers.
 
 use cosim_io::MemSink;
 use std::cell::Cell;
@@ -52,7 +52,7 @@ fn a_run_without_workers_makes_its_steps(rt: HostRuntime) -> Result<(), Fail> {
 const TWO: &str =
     "cosim 1\nunit Counter\nstate n : Int64 = 0\noutput y : Int64 = n\nstep\nn := n + 1\nend\nend\ninstance a : Counter\nend\ninstance b : Counter\nend\nstop 3\nlongest 1\n";
 
-/// The tickets of all lanes are counted: the run waits for the first step of each instance, whose lane gave a ticket for it.
+/// The tickets of all lanes are counted: the run waits for the first step of each instance, for which its lane made a ticket.
 #[test]
 fn tickets_of_each_lane_are_counted(rt: HostRuntime) -> Result<(), Fail> {
     let alloc = rt.alloc();
@@ -65,7 +65,7 @@ fn tickets_of_each_lane_are_counted(rt: HostRuntime) -> Result<(), Fail> {
     Ok(())
 }
 
-/// Counts how often it is asked, and keeps the last turn.
+/// Counts how many times it is called, and keeps the last turn.
 #[derive(Drop)]
 struct Counts {
     asked: Cell<u64>,
@@ -80,8 +80,8 @@ impl Gate for Counts {
     }
 }
 
-/// Without workers nobody answers. The run looks 20,000,000 times for the first step, and then makes it. The lane of such light steps is
-/// left alone afterwards.
+/// Without workers nobody answers. The run looks 20,000,000 times for the first step, and then makes it. The lane, whose steps are so
+/// light, is left alone afterwards.
 #[test]
 fn a_wait_in_vain_ends(rt: HostRuntime) -> Result<(), Fail> {
     let alloc = rt.alloc();

@@ -1,6 +1,6 @@
-//! Tests of runs with workers: a run that takes what a worker answers, the locks of lanes, and how often a lane is published.
+//! Tests of runs with workers: a run that accepts what a worker answers, the locks of lanes, and how often a lane is published.
 //!
-//! What is expected is worked out by hand. All else is asked of the built program, by `tests/reports.txt`.
+//! The expected results were worked out by hand. All other tests are of the built program, by `tests/reports.txt`.
 #![tactic(auto)]
 
 #[cfg(test)]

@@ -3,7 +3,7 @@
 use crew_lanes::{Due, Patience};
 use std::test::Fail;
 
-/// Looks in vain in so many phases, and tells whether the lane was published in each.
+/// Finds nothing in so many phases, and returns whether the lane was published in each.
 fn look_in_vain(patience: &mut Patience, phases: u32) -> bool {
     for _ in 0..phases {
         if patience.begin_phase() != Due::Publish || patience.rests() {
@@ -14,7 +14,7 @@ fn look_in_vain(patience: &mut Patience, phases: u32) -> bool {
     true
 }
 
-/// Goes through so many phases, of which there is one at least, and tells whether the lane was left alone in each.
+/// Goes through so many phases, at least one, and returns whether the lane was left alone in each.
 fn rest(patience: &mut Patience, phases: u32) -> bool {
     if patience.begin_phase() != Due::Withdraw {
         return false;

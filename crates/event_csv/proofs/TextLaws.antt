@@ -1,4 +1,4 @@
--- The text of a trace of what is run of a system is that of the system's own trace.
+-- The text of the trace of the plain form is that of the system's own trace.
 use Rattle.std.proofs.Common.{◌≡◌, ℕ, zero, suc, ◌+◌, ◌-◌, Bool, true, false, cond, ℤ, pos, List, [], ◌∷◌, ◌++◌, map, Option, Some, None, refl, ap}
 use Rattle.std.proofs.Common.{sym, subst, ◌∙◌, arith}
 use Rattle.std.specs.Prelude.{◌&&◌, codes, is_none, slice_get, slice_index_or, if◌then◌else◌, unwrap_or}
@@ -43,7 +43,7 @@ use Rattle.event_csv.specs.EventText.{EventColumn, event_column, event_field, ev
 
 -- ---- Words of a row
 
--- The signal that an output of the shape has by the words of the plain form.
+-- The signal of an output of the shape, from the words of the plain form.
 abbrev signal_by : List Bool → List ℤ → ℕ → Bool → Signal
 signal_by shape words place false = Occurs (slice_index_or words (plain_place shape place) (pos 0))
 signal_by shape words place true =
@@ -69,7 +69,7 @@ read_at (true ∷ shape) (tells ∷ word ∷ words) (suc place) false fits is = 
 one_less : (place : ℕ) → suc place - 1 ≡ place
 one_less place = omega arith
 
--- The text of a signal that two words tell.
+-- The text of a signal, from two words.
 text_by : (ty : Ty) (absent : Bool) (word : ℤ) → cond absent [] (text_of ty word) ≡ signal_text ty (cond absent Absent (Occurs word))
 text_by ty true word = refl
 text_by ty false word = refl

@@ -1,5 +1,5 @@
--- The text of a trace of a system as it is written: the header and the rows as CSV, where an event output without an event has an empty
--- field.
+-- The text of the trace of a system as it is written: the header and the rows as CSV. An event output without an event has an
+-- empty field.
 use Rattle.std.specs.Prelude.{ℕ, List, [], ◌∷◌, ◌++◌, map, codes, slice_index_or}
 use Rattle.std.specs.Fmt.{decimal}
 use Rattle.std.specs.List.{filter_map, flat_map}
@@ -19,24 +19,25 @@ use Rattle.event_runs.specs.Events.{Signal, Occurs, Absent}
 
 -- ---- Columns
 
--- What the header calls an output, where it stands among all outputs of the system, and its type.
+-- A column: its title, the place of its output among all outputs of the system, and its type.
 pub record EventColumn : Type 0 where
   pub title : List ℕ
   pub place : ℕ
   pub ty : Ty
 
--- The column of an output, which the header calls `instance.output`.
+-- The column of an output, whose title is `instance.output`.
 abbrev pub event_column : System → PortName → Port → EventColumn
 event_column system port output =
     record { title = port.instance ++ codes "." ++ port.port; place = place_of system port; ty = output.ty }
 
--- The columns: what is sampled, in the order of its lines, or where nothing is, all outputs by instance and by declaration.
+-- The columns: the sampled outputs in the order of their lines or, where nothing is sampled, all outputs by instance and by
+-- declaration.
 abbrev pub event_columns_of : System → List EventColumn
 event_columns_of system = filter_map (λ port. option_map (event_column system port) (output_at system port)) (samples_or_all system)
 
 -- ---- Lines
 
--- The field of a signal: its word, and nothing where no event occurs.
+-- The field of a signal: its word, or empty where no event occurs.
 abbrev pub signal_text : Ty → Signal → List ℕ
 signal_text ty (Occurs word) = text_of ty word
 signal_text ty Absent = []
@@ -56,6 +57,6 @@ event_line system row =
     ∷ decimal row.point.n
     ∷ map (event_field row.signals) (event_columns_of system))
 
--- The header, and a line for each row.
+-- The text: the header, and a line for each row.
 abbrev pub event_text : System → List EventRow → List ℕ
 event_text system rows = event_header system ++ flat_map (event_line system) rows

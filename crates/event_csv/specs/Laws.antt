@@ -1,4 +1,4 @@
--- Laws of the text of a trace: what is written of the plain form is the text of the system.
+-- Laws of the text of a trace: the text that is written for the plain form is that of the system.
 use Rattle.std.specs.Prelude.{◌≡◌, List}
 use Rattle.super_time.specs.declared.point.Point.{Point}
 use Rattle.trace_csv.specs.Columns.{columns_of}
@@ -13,17 +13,17 @@ use Rattle.event_runs.specs.EventRuns.{event_members_of}
 use Rattle.event_runs.specs.Readings.{HasShape, read_row, read_rows, system_shape}
 use Rattle.event_csv.specs.EventText.{event_header, event_line, event_text}
 
--- The header is that of the system.
+-- The header of the plain form is that of the system.
 abbrev pub HeadersAreRead : Type 0
 HeadersAreRead = (system : System) → IsRanged system → IsWellFormed system → header_line system (columns_of system) ≡ event_header system
 
--- The line of a row is that of the row, read.
+-- The line of a row of the plain form is that of the row which it means.
 abbrev pub LinesAreRead : Type 0
 LinesAreRead =
     (system : System) → IsRanged system → IsWellFormed system → (row : Row) → HasShape (system_shape system) row.words
     → row_line (resolution_of system) (columns_of system) row.point row.words ≡ event_line system (read_row (event_members_of system) row)
 
--- So the text of a trace of what is run of a system is that of the system's own trace.
+-- So the text of the trace of the plain form is that of the system's own trace.
 abbrev pub TextsAreRead : Type 0
 TextsAreRead =
     (system : System) → IsRanged system → IsWellFormed system → HasNoCycle system

@@ -25,7 +25,7 @@ follows_on x y ahead (Wrote front stores joined) h = h
 follows_on x y ahead (Saw seen loads) h = behind-trans seen x y h ahead
 follows_on x y ahead Spent h = tt
 
--- the front of a writer's view, and whether a view is the writer's
+-- The contents in a writer's view, and whether a view is the writer's.
 abbrev wrote_of : Front → View → Front
 wrote_of other (Wrote front stores joined) = front
 wrote_of other _ = other
@@ -34,17 +34,17 @@ abbrev IsWrote : View → Type 0
 IsWrote (Wrote front stores joined) = Unit {0}
 IsWrote _ = ⊥
 
--- what holds of the views in the form that the rule gives them
+-- What holds of the views, in the form in which the rule has it.
 in_form : (x : Front) (views : List View) (P : List View → Type 0) (h : IsInStep x views) → P (Wrote x h.stores h.joined ∷ h.others) → P views
 in_form x views P h p = subst P (sym h.writer) p
 
--- the writer has the first view, with what the cell holds
+-- The writer has the first view, with the contents of the cell.
 writer_is : (x front : Front) (s j stores joined : ℕ) (others : List View) (pass : ℕ) → All (Follows x) others
     → get_elem? (Wrote x s j ∷ others) pass ≡ some (Wrote front stores joined) → (pass ≡ 0) × (x ≡ front)
 writer_is x front s j stores joined others zero all at = (refl, ap (wrote_of x) (some-injective (Wrote x s j) (Wrote front stores joined) at))
 writer_is x front s j stores joined others (suc pass) all at = absurd (all_at (Follows x) others pass (Wrote front stores joined) all at)
 
--- the writer's view may become another with what the cell then holds, which leaves no reader ahead
+-- The writer's view may become another one with the new contents of the cell, where no reader is newer.
 write_at : (x front next : Front) (s j stores joined made more : ℕ) (others : List View) (pass : ℕ) → All (Follows x) others
     → get_elem? (Wrote x s j ∷ others) pass ≡ some (Wrote front stores joined) → IsBehind front next
     → IsInStep next (set (Wrote x s j ∷ others) pass (Wrote next made more))
@@ -54,7 +54,7 @@ write_at x front next s j stores joined made more others zero all at ahead =
     record { stores = made; joined = more; others = others; writer = refl; readers = All-weaker (Follows x) (Follows next) (follows_on x next on) others all }
 write_at x front next s j stores joined made more others (suc pass) all at ahead = absurd (all_at (Follows x) others pass (Wrote front stores joined) all at)
 
--- the same of the rule
+-- The same for the rule.
 writes : (x : Front) (views : List View) (h : IsInStep x views) (pass : ℕ) (front next : Front) (stores joined made more : ℕ)
     → get_elem? views pass ≡ some (Wrote front stores joined) → IsBehind front next
     → IsInStep next (set views pass (Wrote next made more))
@@ -62,14 +62,14 @@ writes x views h pass front next stores joined made more at ahead =
     let P : List View → Type 0 = λ vs. get_elem? vs pass ≡ some (Wrote front stores joined) → IsInStep next (set vs pass (Wrote next made more)) in
     in_form x views P h (λ e. write_at x front next h.stores h.joined stores joined made more h.others pass h.readers e ahead) at
 
--- where the writer's view stands, and what the cell holds
+-- The place of the writer's view, and the contents of the cell.
 writer_at : (x : Front) (views : List View) (h : IsInStep x views) (pass : ℕ) (front : Front) (stores joined : ℕ)
     → get_elem? views pass ≡ some (Wrote front stores joined) → (pass ≡ 0) × (x ≡ front)
 writer_at x views h pass front stores joined at =
     let P : List View → Type 0 = λ vs. get_elem? vs pass ≡ some (Wrote front stores joined) → (pass ≡ 0) × (x ≡ front) in
     in_form x views P h (λ e. writer_is x front h.stores h.joined stores joined h.others pass h.readers e) at
 
--- a store that does not go back
+-- A store that does not go back.
 pub stores : (pass : ℕ) (v : View) (front next : Front) (made joined : ℕ) → v ≡ Wrote front made joined → IsBehind front next
     → Turns IsInStep pass v (λ _. next) Stores
 stores pass v front next made joined is ahead x views h at =
@@ -85,7 +85,7 @@ reader_at x seen s j loads w others (suc pass) all at f = (
   all_at (Follows x) others pass (Saw seen loads) all at,
 )
 
--- a reader's view may become any that follows the cell
+-- A reader's view may become any that follows the cell.
 reads_on : (x : Front) (views : List View) (h : IsInStep x views) (pass : ℕ) (seen : Front) (loads : ℕ) (w : View)
     → get_elem? views pass ≡ some (Saw seen loads) → Follows x w
     → IsInStep x (set views pass w) × IsBehind seen x
@@ -93,14 +93,14 @@ reads_on x views h pass seen loads w at f =
     let P : List View → Type 0 = λ vs. get_elem? vs pass ≡ some (Saw seen loads) → IsInStep x (set vs pass w) × IsBehind seen x in
     in_form x views P h (λ e. reader_at x seen h.stores h.joined loads w h.others pass h.readers e f) at
 
--- a load
+-- A load.
 pub loads : (pass : ℕ) (v : View) (seen : Front) (count : ℕ) → v ≡ Saw seen count → Turns IsInStep pass v (λ x. x) Loads
 loads pass v seen count is x views h at =
     let w : View = Saw x (count + 1) in
     let on = reads_on x views h pass seen count w (at ∙ ap some is) (behind-refl x) in
     (w, on.0, subst (λ (y : View). Loads y x x w) (sym is) (refl, on.1))
 
--- one more view that follows the cell
+-- One more view that follows the cell.
 grows : (x : Front) (views : List View) (w : View) → IsInStep x views → Follows x w → IsInStep x (views ++ w ∷ [])
 grows x views w h f =
     record {
@@ -112,14 +112,14 @@ grows x views w h f =
           All-push (Follows x) h.others w h.readers f;
     }
 
--- a new reader, beside the writer
+-- A new reader, from the writer's view.
 pub splits : (pass : ℕ) (v : View) (front : Front) (made joined : ℕ) → v ≡ Wrote front made joined → Forks IsInStep pass v v (reader_of v)
 splits pass v front made joined is x views h at =
     let same : x ≡ front = (writer_at x views h pass front made joined (at ∙ ap some is)).1 in
     let begins : Follows x (reader_of v) = subst (λ (y : View). Follows x (reader_of y)) (sym is) (subst (λ (y : Front). IsBehind y x) same (behind-refl x)) in
     subst (λ vs. IsInStep x (vs ++ reader_of v ∷ [])) (sym (set_again views pass v at)) (grows x views (reader_of v) h begins)
 
--- a reader's view goes to a new pass
+-- A reader's view moves to a new pass.
 pub hands_on : (pass : ℕ) (v : View) (seen : Front) (count : ℕ) → v ≡ Saw seen count → Forks IsInStep pass v Spent v
 hands_on pass v seen count is x views h at =
     let on = reads_on x views h pass seen count Spent (at ∙ ap some is) tt in
@@ -130,7 +130,7 @@ end_at x s j others zero all apart = absurd (apart refl)
 end_at x s j others (suc other) all apart =
     record { stores = s; joined = j; others = set others other Spent; writer = refl; readers = All-set (Follows x) others other Spent tt all }
 
--- the writer takes a reader in, whose view ends
+-- The writer joins a reader, whose view ends.
 pub joins : (pass : ℕ) (v : View) (front : Front) (made joined other : ℕ) (w : View) (seen : Front) (count : ℕ) → v ≡ Wrote front made joined
     → w ≡ Saw seen count
     → Merges IsInStep pass v other w (after_join v w) Spent

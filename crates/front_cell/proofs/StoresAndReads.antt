@@ -8,7 +8,7 @@ use Rattle.front_cell.specs.Laws.{Steps, IsAdvance, IsStore, IsKept, IsWriterFor
 use Rattle.front_cell.specs.declared.front.Front.{Front}
 use Rattle.front_cell.proofs.Rules.{behind-trans}
 
--- a relation that passes on holds between each front and all later ones, where it holds at each step
+-- A transitive relation holds between each contents and all later ones, where it holds at each step.
 module _ (R step : Front → Front → Type 0) (one : (x y : Front) → step x y → R x y) (trans : (x y z : Front) → R x y → R y z → R x z) where
   from_first : (x : Front) (fronts : List Front) → Steps step x fronts → All (R x) fronts
   from_first x [] s = All-nil (R x)

@@ -1,4 +1,4 @@
--- How the field of a cell is seen.
+-- What contracts see of the field of a cell.
 use Rattle.front_cell.specs.Ends.{CellId}
 use Rattle.front_cell.specs.declared.cell.FrontCell.TheInside.{Inside}
 

@@ -13,7 +13,7 @@ use std::sync::Wait;
 
 /// A cell of two words: the number of committed rows, and whether the run is closed.
 ///
-/// Contracts see it as which cell it is.
+/// Contracts see a cell as its identity.
 #[derive(Drop)]
 pub struct FrontCell {
     words: RuledSeqCell<Front, View, InStep, 2>,
@@ -30,9 +30,9 @@ impl Model for FrontCell {
 }
 
 impl FrontCell {
-    /// A cell with no rows, of an open run, and its writer.
+    /// Returns a cell with no rows, of an open run, and its writer.
     ///
-    /// `AllocError` where there is no memory for it.
+    /// Fails with `AllocError` where there is no memory for it.
     pub fn new(alloc: Global) -> Result<(FrontCell, Writer), AllocError>
         ensures { IfOk result (λ made. made.1 ≡ record { cell = made.0; front = opening; stores = 0; joined = 0 }) }
     {
@@ -41,8 +41,8 @@ impl FrontCell {
         Ok((FrontCell { words }, Writer { pass, front }))
     }
 
-    /// Stores a number of rows, which is no smaller than the last, while the run is open. It is one store: no reader
-    /// sees another number on the way.
+    /// Stores a number of rows, while the run is open. The number must be at least the last one. It is one store: no reader sees
+    /// a number in between.
     pub fn advance<R: Wait>(&self, rt: &R, writer: &mut Writer, rows: u64)
         requires own { writer.old.cell ≡ self.now }
         requires forward { writer.old.front.rows ≤ rows }
@@ -52,7 +52,7 @@ impl FrontCell {
         self.store(rt, writer, Front::open_at(rows));
     }
 
-    /// Closes the run, by one store. A second close leaves the front as it is, by one store or none.
+    /// Closes the run, by one store. Another close leaves the cell's contents as they are, by at most one store.
     pub fn close<R: Wait>(&self, rt: &R, writer: &mut Writer)
         requires { writer.old.cell ≡ self.now }
         ensures closed { writer.new ≡ record writer.old { front = closed_at writer.old.front; stores = writer.new.stores } }
@@ -64,7 +64,7 @@ impl FrontCell {
         self.store(rt, writer, next);
     }
 
-    // The writer's one kind of step.
+    // Makes a store. The writer makes no other kind of step.
     fn store<R: Wait>(&self, rt: &R, writer: &mut Writer, next: Front)
         requires own { writer.old.cell ≡ self.now }
         requires forward { IsBehind writer.old.front next }
@@ -74,7 +74,7 @@ impl FrontCell {
         writer.front = next;
     }
 
-    /// A new reader, which has seen what the writer stored last, and has made no load.
+    /// Returns a new reader, which has seen what the writer stored last, and has made no load.
     pub fn split<R: Wait>(&self, _rt: &R, writer: &mut Writer) -> Reader
         requires { writer.old.cell ≡ self.now }
         ensures same { writer.new ≡ writer.old }
@@ -85,7 +85,7 @@ impl FrontCell {
         }
     }
 
-    /// One load of the cell: what it holds at a step of this call.
+    /// Makes one load of the cell. Returns what the cell had at some moment of this call.
     pub fn read<R: Wait>(&self, rt: &R, reader: &mut Reader) -> Front
         requires { reader.old.cell ≡ self.now }
         ensures loaded { reader.new ≡ record { cell = reader.old.cell; seen = result; loads = reader.old.loads + 1 } }
@@ -94,7 +94,7 @@ impl FrontCell {
         self.words.load_as::<Load, R>(rt, &mut reader.pass)
     }
 
-    /// Takes a reader in, whose loads the writer then counts. The writer's front and the cell stay.
+    /// Ends a reader; the writer counts its loads from now on. The writer's last store and the cell stay.
     pub fn join<R: Wait>(&self, _rt: &R, writer: &mut Writer, reader: Reader)
         requires own_writer { writer.old.cell ≡ self.now }
         requires own_reader { reader.cell ≡ self.now }

@@ -1,9 +1,9 @@
-// What a cell holds.
+// The contents of a cell.
 ghost use Rattle.std.specs.Prelude.{◌≡◌};
 
 use crossbeam_utils::atomic::Words;
 
-/// How far a run has come.
+/// The progress of a run.
 #[derive(Clone, Copy, PartialEq, Eq, Debug)]
 pub struct Front {
     /// The number of committed rows.
@@ -15,7 +15,7 @@ pub struct Front {
 impl Front {
     ghost use Rattle.front_cell.specs.Front.{open_at, closed_at};
 
-    // This many rows, of an open run.
+    // Returns the progress of an open run with so many rows.
     pub(crate) fn open_at(rows: u64) -> Front
         ensures { result ≡ open_at rows }
     {
@@ -25,7 +25,7 @@ impl Front {
         }
     }
 
-    // The same rows, of a closed run.
+    // Returns the same rows, of a closed run.
     pub(crate) fn to_closed(self) -> Front
         ensures { result ≡ closed_at self }
     {

@@ -1,11 +1,11 @@
-// A reader's end.
+// The reader of a cell.
 use crate::view::EndPass;
 use std::marker::Model;
 
 /// A reader of a cell, in any thread.
 ///
-/// Contracts see it as `ReaderState`: its cell, what its last load gave, or before the first the writer's front at the
-/// split, and how many loads it made.
+/// Contracts see it as `ReaderState`: its cell, what its last load returned, and how many loads it made. Before the first load,
+/// it has what the writer had at the split.
 #[derive(Drop)]
 pub struct Reader {
     pub(crate) pass: EndPass,

@@ -8,7 +8,7 @@ use std::thread;
 
 const ALL: u64 = 1000;
 
-// A front, as a test reads it.
+// The contents of a cell, for tests.
 fn at(rows: u64, closed: bool) -> Front {
     Front { rows, closed }
 }
@@ -38,7 +38,7 @@ fn readers_see_what_the_writer_stores(rt: HostRuntime) -> Result<(), Fail> {
     Ok(())
 }
 
-// Stores all numbers up to `ALL`, one after another, and closes.
+// Stores all numbers up to `ALL`, one after another, and closes the run.
 fn write<R: Wait>(rt: &R, cell: &FrontCell, mut writer: Writer) -> Writer
     requires own { writer.cell ≡ cell.now }
     requires start { writer.front ≡ opening }
@@ -51,7 +51,7 @@ fn write<R: Wait>(rt: &R, cell: &FrontCell, mut writer: Writer) -> Writer
     writer
 }
 
-// Reads until the run is closed. Gives the last number, and whether no number was less than the one before it.
+// Reads until the run is closed. Returns the last number, and whether no number was less than the one before it.
 fn watch<R: Wait>(rt: &R, cell: &FrontCell, mut reader: Reader) -> (Reader, u64, bool)
     requires { reader.cell ≡ cell.now }
     ensures { result.0.cell ≡ cell.now }

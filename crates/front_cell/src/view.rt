@@ -1,18 +1,16 @@
-// What the proofs keep of the writer and of each reader, and the rule that ties them to the cell.
+// The views of the writer and of each reader in proofs, and the rule that relates them to the cell.
 use crate::front::Front;
 use atomic_table::{Join, Split};
 use crossbeam_utils::atomic::seq_cell::Pass;
 use crossbeam_utils::rule::{Outcome, Protocol};
 
-/// What one end of a cell has done. It is there for the proofs alone: no value of it is made, and so its numbers have no
-/// bound.
+/// What one end of a cell has done. It exists only in proofs: no value of it is made, so its numbers have no bound.
 pub enum View {
-    /// The writer's: what it stored last, how many stores it made, and how many loads the readers that it took in had
-    /// made.
+    /// The writer's: what it stored last, how many stores it made, and how many loads the readers that it joined had made.
     Wrote(Front, u64, u64),
-    /// A reader's: what its last load gave, or before the first what the writer had stored, and how many loads it made.
+    /// A reader's: what its last load returned, or before the first what the writer had stored, and how many loads it made.
     Saw(Front, u64),
-    /// That of a reader which was joined away.
+    /// That of a reader after its join.
     Spent,
 }
 
@@ -29,7 +27,7 @@ impl Protocol<Front, View> for InStep {
     ghost first = { Wrote opening 0 0 };
 }
 
-/// What a store does to the writer's view.
+/// The effect of a store on the writer's view.
 pub struct Store;
 
 impl Outcome<Front, View> for Store {
@@ -38,7 +36,7 @@ impl Outcome<Front, View> for Store {
     ghost then = { Stores };
 }
 
-/// What a load does to a reader's view.
+/// The effect of a load on a reader's view.
 pub struct Load;
 
 impl Outcome<Front, View> for Load {
@@ -47,7 +45,7 @@ impl Outcome<Front, View> for Load {
     ghost then = { Loads };
 }
 
-/// How a reader begins, beside the writer.
+/// How a reader begins, from the writer's view.
 pub struct Begin;
 
 impl Split<View> for Begin {
@@ -58,7 +56,7 @@ impl Split<View> for Begin {
     ghost right = { reader_of };
 }
 
-/// How a reader's view is handed on, whole, to a new pass.
+/// How a reader's whole view moves to a new pass.
 pub struct HandOn;
 
 impl Split<View> for HandOn {
@@ -69,7 +67,7 @@ impl Split<View> for HandOn {
     ghost right = { λ v. v };
 }
 
-/// How the writer takes a reader in, whose view ends.
+/// How the writer joins a reader, whose view ends.
 pub struct End;
 
 impl Join<View> for End {

@@ -1,12 +1,12 @@
-// The writer's end.
+// The writer of a cell.
 use crate::front::Front;
 use crate::view::EndPass;
 use std::marker::Model;
 
 /// The one writer of a cell.
 ///
-/// Contracts see it as `WriterState`: its cell, the front that it stored last, which is what the cell holds, how many
-/// stores it made, and how many loads the readers that it took in had made.
+/// Contracts see it as `WriterState`: its cell, the contents that it stored last, which the cell has, how many stores it made, and
+/// how many loads the readers that it joined had made.
 #[derive(Drop)]
 pub struct Writer {
     pub(crate) pass: EndPass,

@@ -1,4 +1,4 @@
--- Laws of chains: they go on where their beginning stops, what is matched in sequence begins them, and so does what posts append.
+-- Laws of chains: they continue where a prefix ends. What matches in sequence is a prefix, and so is what posts append.
 use Rattle.std.proofs.Common.{◌≡◌, ℕ, suc, ◌≤◌, ◌==◌, ℤ, Bool, true, false, if◌then◌else◌, List, [], ◌∷◌, ◌++◌, length, take, drop}
 use Rattle.std.proofs.Common.{Option, Some, None, Result, slice_get, refl, sym, ap, subst, ◌∙◌, append_assoc, arith, Decides}
 use Rattle.std.proofs.lemmas.Bool.{and_parts, eqb-true, eq-eqb, and_from}
@@ -49,7 +49,7 @@ key_itself a =
 pub same_keys : (a b : StepKey) → a ≡ b → is_same_key a b ≡ true
 same_keys a b is = subst (λ k. is_same_key a k ≡ true) is (key_itself a)
 
--- A choice, by the test that was made.
+-- A choice, by its test.
 pub chosen : (more : List Answered) (b : Bool) (t : Bool) → t ≡ b → (if t then more else []) ≡ (if b then more else [])
 chosen more b t is = ap (λ (u : Bool). if u then more else []) is
 
@@ -61,7 +61,7 @@ begins_split ones all is = sym (take-append-drop (length ones) all) ∙ ap (λ f
 pub begins_of : (ones all rest : List Answered) → all ≡ ones ++ rest → Begins ones all
 begins_of ones all rest is = ap (take (length ones)) is ∙ take_at ones rest (length ones) refl
 
--- A list begins with another: what is behind that.
+-- A list begins with another, and what comes after that.
 pub record Fronts (ones all : List Answered) : Type 0 where
   pub rest : List Answered
   pub is : all ≡ ones ++ rest
@@ -107,7 +107,7 @@ module _ (meaning : StepKey → Option (Result Moved Fault)) where
   chain_splits code (Some state) (cell ∷ cells) (one ∷ ones) rest is =
       chain_splits code (whole_state one) cells ones rest (linked code state cell cells one (ones ++ rest) is).others
 
-  -- An answer that is meant, with the row and the key that come next, is the link itself.
+  -- An answer with the meaning of its key, with the next row and key, is the next link of the chain.
   pub link_is : (code state : List ℤ) (cell : Cell) (one : Answered) → IsMeant meaning one
       → is_next cell.row (key_at code state cell) one ≡ true → link meaning code state cell ≡ Some one
   link_is code state cell one meant is =
@@ -126,7 +126,7 @@ module _ (meaning : StepKey → Option (Result Moved Fault)) where
   next_itself : (one : Answered) → is_next one.row one.key one ≡ true
   next_itself one = and_from (one.row == one.row) (is_same_key one.key one.key) (eq-eqb one.row one.row refl) (key_itself one.key)
 
-  -- What does not come next is not matched.
+  -- What does not come next does not match.
   unmatched : (row : ℕ) (key : StepKey) (one : Answered) (ones : List Answered) (told : Option (Result Moved Fault))
       (others : Option (List ℤ) → List Answered) → is_next row key one ≡ false
       → [] ≡ common (one ∷ ones) (followed_by (option_map (answer_at row key) told) others)
@@ -185,7 +185,7 @@ module _ (meaning : StepKey → Option (Result Moved Fault)) where
 
   -- ---- What posts append
 
-  -- What is asked for begins the rest of a chain.
+  -- The answer to a step is the first of the rest of a chain.
   asked_begins : (code : List ℤ) (state : Option (List ℤ)) (line : List Cell) (one : Answered) → IsMeant meaning one
       → asks_for (need_at code state line) one ≡ true → Fronts (one ∷ []) (chain meaning code state line)
   asked_begins code None [] one meant asks = absurd (cc)

@@ -1,4 +1,4 @@
--- Laws of guessed lines: they end where no row is planned, and fit what lanes take.
+-- Laws of guessed lines: they end where no row is planned, and lanes accept them.
 use Rattle.std.proofs.Common.{◌≡◌, ℕ, zero, suc, ◌+◌, ◌^◌, ◌<◌, ◌≤◌, ◌==◌, nat_lt, Bool, true, false, ◌||◌, if◌then◌else◌, ℤ}
 use Rattle.std.proofs.Common.{List, [], ◌∷◌, ◌++◌, length, refl, sym, ap, subst, ◌∙◌, append-nil, arith, mul-le-mul_right}
 use Rattle.std.proofs.lemmas.Bool.Decides.{nat_tests}
@@ -120,7 +120,7 @@ reaches_more row n count line false moves cell is fits so_far = subst (Reaches r
   cells = so_far.cells;
 })
 
--- A step that is planned ends in time.
+-- A planned step ends within the range of times.
 planned_end : (seen : Seen) (j : ℕ) → is_planned (planned_time seen j) seen.step seen.stop j ≡ true → planned_time seen j + planned_step seen j ≤ seen.stop
 planned_end seen j is = let before : planned_time seen j < seen.stop = grind (arith, nat_tests) in omega arith
 

@@ -1,4 +1,4 @@
--- Laws of journals: each record keeps what is kept of tickets.
+-- Laws of journals: each record keeps the invariant of tickets.
 use Rattle.std.proofs.Common.{◌≡◌, ℕ, suc, ◌+◌, ◌^◌, ◌<◌, ◌≤◌, ◌==◌, Bool, true, false, ◌||◌, if◌then◌else◌, List, [], ◌∷◌, ◌++◌}
 use Rattle.std.proofs.Common.{length, Option, Some, None, IfSome, refl, sym, ap, ◌∙◌, arith, ◌-◌, take, drop, get_or, append_assoc, append-nil, add-one}
 use Rattle.std.proofs.lemmas.Bool.{eqb-true, eqb-false}
@@ -181,7 +181,7 @@ booked_back journal n out b =
 
 -- ---- Counts are no more than records
 
--- Each record adds at most one to what was given and ended.
+-- Each record adds at most one to the counts of made and ended tickets.
 count_from : (tally : Tally) (records : List Record)
     → (replay_from tally records).tickets + (replay_from tally records).posted + (replay_from tally records).back
     ≤ tally.tickets + tally.posted + tally.back + length records
@@ -198,7 +198,7 @@ count_records records = let all = count_from no_tally records in omega arith
 
 -- ---- How they are kept
 
--- The number of the next ticket is far below what words hold, and so are the counts.
+-- The number of the next ticket is far below the greatest number of its type, and so are the counts.
 pub next_small : (journal : JournalState) → IsBooked journal → next_ticket journal ≤ 2 ^ 32 - 1
 next_small journal b = let most = count_records journal.records in let size = b.size in omega arith
 

@@ -1,4 +1,4 @@
--- Laws of lanes: what each event leaves is kept as it has to be.
+-- Laws of lanes: each event keeps the invariant of a lane.
 use Rattle.std.proofs.Common.{◌≡◌, ℕ, ◌+◌, ◌≤◌, Bool, List, [], ◌∷◌, ◌++◌, map, length, take, drop, Option, Some, ℤ}
 use Rattle.std.proofs.Common.{refl, sym, ap, subst, ◌∙◌, arith, length-drop}
 use Rattle.std.proofs.lemmas.List.{take-append-drop}
@@ -17,7 +17,7 @@ use Rattle.guess_board.proofs.SlotLaws.{put_some, slots_are, taken_slots}
 use Rattle.list_laws.proofs.Lists.{each_part}
 use Rattle.unit_answers.specs.Answers.{Answered, IsProven}
 
--- How many answers there are by a journal with one more record.
+-- How many answers there are, by a journal with one more record.
 pub answers_published : (records : List Record) (kept : ℕ) (cut : Bool) → (replay_of (records ++ Published kept cut ∷ [])).answers ≡ kept
 answers_published records kept cut = ap (λ t. t.answers) (replay_more records (Published kept cut))
 
@@ -31,7 +31,7 @@ answers_posted records n appended = ap (λ t. t.answers) (replay_more records (P
 pub answers_backed : (records : List Record) (n : ℕ) → (replay_of (records ++ Back n ∷ [])).answers ≡ (replay_of records).answers
 answers_backed records n = ap (λ t. t.answers) (replay_more records (Back n))
 
--- ---- What is kept for a new front
+-- ---- What is kept when a lane is published again
 
 each_dropped : (k : ℕ) (ones : List Answered) → AllByRecursion IsProven ones → AllByRecursion IsProven (drop k ones)
 each_dropped k ones each = (each_part IsProven (take k ones) (drop k ones) (subst (AllByRecursion IsProven) (sym (take-append-drop k ones)) each)).1
@@ -39,7 +39,7 @@ each_dropped k ones each = (each_part IsProven (take k ones) (drop k ones) (subs
 each_taken : (k : ℕ) (ones : List Answered) → AllByRecursion IsProven ones → AllByRecursion IsProven (take k ones)
 each_taken k ones each = (each_part IsProven (take k ones) (drop k ones) (subst (AllByRecursion IsProven) (sym (take-append-drop k ones)) each)).0
 
--- The answers that stay, told by how many are passed and how many are matched.
+-- The answers that stay, by how many are passed and how many match.
 pub record Stays (code state : List ℤ) (line : List Cell) (ones : List Answered) (first kept : ℕ) : Type 0 where
   pub within : first + kept ≤ length ones
   pub few : kept ≤ length line
@@ -79,7 +79,7 @@ stays code state line low ones first kept rise each first_is kept_is few =
       proven = each_taken kept left (each_dropped first ones each);
     }
 
--- What slots hold of the answers that stay.
+-- The slots of the answers that stay.
 pub slots_stay : (line : List Cell) (entries : List (ℕ × Option Answered)) (first kept : ℕ) → AreSlotsOf line entries
     → first + kept ≤ length (filled (slots_in entries))
     → take kept (drop first (slots_in entries)) ≡ map Some (take kept (drop first (filled (slots_in entries))))
@@ -97,7 +97,7 @@ pub slots_new : (line : List Cell) (stay : List Answered) (entries : List (ℕ �
     → entries ≡ put_front (entries_of line []) (map Some stay) → AreSlotsOf line entries × (filled (slots_in entries) ≡ stay)
 slots_new line stay entries short is = slots_are line stay entries short (is ∙ put_some line stay short)
 
--- A new front: slots of an old line with answers to it, and how many of these are passed and matched.
+-- A new publish: slots of an old line with answers to it, and how many of these are passed and match.
 pub record Front (code state : List ℤ) (line : List Cell) (entries : List (ℕ × Option Answered)) (slots : List (Option Answered))
     (first kept : ℕ) : Type 0 where
   pub old_line : List Cell
@@ -109,7 +109,7 @@ pub record Front (code state : List ℤ) (line : List Cell) (entries : List (ℕ
   pub kept_is : kept ≡ length (matching code (Some state) line (filled (drop first slots)))
   pub few : kept ≤ length line
 
--- What stays for it in new slots.
+-- The answers that stay, in new slots.
 pub record IsMoved (code state : List ℤ) (line : List Cell) (entries : List (ℕ × Option Answered)) (slots : List (Option Answered)) (first kept : ℕ)
     (new : List (ℕ × Option Answered)) : Type 0 where
   pub slots_of : AreSlotsOf line new

@@ -1,4 +1,4 @@
--- Laws of what is needed next, as it is told in code.
+-- Laws of the next needed step, as the code finds it.
 use Rattle.std.proofs.Common.{◌≡◌, ◌==◌, Bool, true, false, ◌&&◌, List, ℤ, refl, sym, ap, ◌∙◌}
 use Rattle.std.specs.Prelude.{IsTrue, ◌↔◌}
 use Rattle.std.proofs.lemmas.Bool.{and_parts}
@@ -9,7 +9,7 @@ use Rattle.guess_board.proofs.ChainLaws.{keys_same, same_keys, words_itself}
 use Rattle.list_laws.proofs.Truths.{and_true}
 use Rattle.unit_answers.specs.Keys.{StepKey}
 
--- Whether keys are the same, as it was told.
+-- Whether keys are equal, as the code found it.
 pub key_told : (told : Bool) (key other : StepKey) → (IsTrue told ↔ (other ≡ key)) → told ≡ is_same_key key other
 key_told true key other exactly = sym (same_keys key other (sym (exactly.0 refl)))
 key_told false key other exactly = by (is_same_key key other) refl

@@ -1,4 +1,4 @@
--- What is kept for a chain is the longest run that begins it.
+-- The answers that are kept for a chain are their longest run that is a prefix of it.
 use Rattle.std.proofs.Common.{◌≡◌, ℕ, zero, suc, ◌≤◌, ◌==◌, Bool, true, false, List, [], ◌∷◌, length, map, take, refl, sym, ap, subst, ◌∙◌, arith}
 use Rattle.std.proofs.lemmas.Bool.{and_parts, eqb-true, eq-eqb, and_from}
 use Rattle.guess_board.specs.Chains.{common, is_next, is_same_key}

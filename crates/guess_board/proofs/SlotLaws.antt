@@ -1,4 +1,4 @@
--- Laws of slots: what they hold, what stands below a row, and what is put into the first empty one.
+-- Laws of slots: their contents, which of them are below a row, and what is stored in the first empty one.
 use Rattle.std.proofs.Common.{◌≡◌, ℕ, zero, suc, ◌+◌, ◌<◌, ◌≤◌, ◌==◌, nat_le, nat_lt, nat_eq, Bool, true, false, if◌then◌else◌, List, [], ◌∷◌, ◌++◌, map}
 use Rattle.std.proofs.Common.{length, take, drop, Option, Some, None, refl, sym, ap, subst, ◌∙◌, arith, ℤ, Result, length-drop, length-take, ◌-◌, slice_get}
 use Rattle.std.proofs.lemmas.Bool.Decides.{nat_tests}
@@ -41,7 +41,7 @@ filled_entries [] (one ∷ ones) short = absurd (omega arith)
 filled_entries (cell ∷ cells) [] short = refl
 filled_entries (cell ∷ cells) (one ∷ ones) short = ap (λ more. one ∷ more) (filled_entries cells ones (omega arith))
 
--- Slots of a line hold at most one answer for each cell.
+-- Slots of a line have at most one answer for each cell.
 pub filled_short : (line : List Cell) (entries : List (ℕ × Option Answered)) → AreSlotsOf line entries → length (filled (slots_in entries)) ≤ length line
 filled_short line entries kept =
     let most = length-filled (slots_in entries) in
@@ -59,7 +59,7 @@ dropped (suc k) [] ones = refl
 dropped (suc k) (cell ∷ cells) [] = dropped k cells [] ∙ ap (λ ones. slots_in (entries_of (drop k cells) ones)) (drop_none k)
 dropped (suc k) (cell ∷ cells) (one ∷ ones) = dropped k cells ones
 
--- What slots hold from a place on.
+-- The contents of slots from a place on.
 pub filled_dropped : (k : ℕ) (line : List Cell) (ones : List Answered) → length ones ≤ length line
     → filled (drop k (slots_in (entries_of line ones))) ≡ drop k ones
 filled_dropped k line ones short =
@@ -103,7 +103,7 @@ above : (low : ℕ) (front : List Cell) (cell : Cell) (rest : List Cell) → Ris
 above low [] cell rest rises = rises.0
 above low (first ∷ front) cell rest rises = let more = above (suc first.row) front cell rest rises.1 in omega (arith, rises.0)
 
--- A row that is above all others is put behind them.
+-- A row that is above all others is inserted after them.
 pub inserted : (low : ℕ) (front : List Cell) (cell : Cell) (rest : List Cell) → RisesFrom low (front ++ cell ∷ rest)
     → insert_entry nat_eq (entries_of front []) cell.row None ≡ entries_of (front ++ cell ∷ []) []
 inserted low [] cell rest rises = refl
@@ -178,7 +178,7 @@ below_short row (one ∷ ones) = by (nat_lt one.row row) (below_short row ones)
     by true others = omega arith
     by false others = omega arith
 
--- What is matched is a beginning of what there is.
+-- What matches is a prefix of the answers.
 pub matched_front : (code : List ℤ) (state : Option (List ℤ)) (line : List Cell) (ones : List Answered)
     → take (length (matching code state line ones)) ones ≡ matching code state line ones
 matched_front code None line ones = refl
@@ -200,13 +200,13 @@ matched_short code state line ones =
     let many = length-take (length (matching code state line ones)) ones in
     omega arith
 
--- ---- What is put and moved
+-- ---- What is stored and moved
 
 pub record NextPlace (line : List Cell) (entries : List (ℕ × Option Answered)) (place : ℕ) : Type 0 where
   pub is : place ≡ length (filled (slots_in entries))
   pub within : place < length line
 
--- The place of what is needed next, by the cells from it on.
+-- The place of the next needed step, by the cells from it on.
 pub next_place : (line : List Cell) (entries : List (ℕ × Option Answered)) (slots : List (Option Answered)) (cells : List Cell)
     → slots ≡ slots_in entries → cells ≡ drop (length (filled slots)) line → 1 ≤ length cells → NextPlace line entries (length line - length cells)
 next_place line entries slots cells same from some =
@@ -272,7 +272,7 @@ get_first (slot ∷ slots) (suc k) = get_first slots k
 pub get_dropped : (slots : List (Option Answered)) (a b : ℕ) → slice_get slots (a + b) ≡ slice_get (drop a slots) b
 get_dropped slots a b = get_first slots (a + b) ∙ ap (λ s. slice_get s 0) (sym (drop-drop b a slots)) ∙ sym (get_first (drop a slots) b)
 
--- A slot is as it was where those from its place on are.
+-- A slot is unchanged where those from its place on are unchanged.
 pub same_slot : (entries others : List (ℕ × Option Answered)) (k : ℕ) → drop k entries ≡ drop k others
     → slice_get (slots_in entries) k ≡ slice_get (slots_in others) k
 same_slot entries others k same =

@@ -1,4 +1,4 @@
--- Working off a ticket: one answer after the other is the chain of its cells.
+-- Answering a ticket: one answer after the other is the chain of its cells.
 use Rattle.std.proofs.Common.{◌≡◌, ◌∙◌, ℕ, ◌-◌, ◌<◌, ◌≤◌, ℤ, List, [], ◌∷◌, ◌++◌, length, take, drop}
 use Rattle.std.proofs.Common.{get_or, Option, Some, None, Result, Ok, Err, refl, sym, ap, subst}
 use Rattle.std.proofs.Common.{append_assoc, append-nil, arith}
@@ -15,7 +15,7 @@ use Rattle.unit_answers.specs.Keys.{StepKey, meaning}
 use Rattle.unit_exec.specs.Images.{Compiled}
 use Rattle.unit_vm.specs.Programs.{program_words}
 
--- What a chain has behind an answer, by the state after its whole step.
+-- What a chain has after an answer, by the state after its whole step.
 abbrev pub behind : List ℤ → Option (List ℤ) → List Cell → List Answered
 behind code None cells = []
 behind code (Some state) cells = chain_of code state cells
@@ -30,7 +30,7 @@ behind_is code None [] = refl
 behind_is code None (cell ∷ cells) = refl
 behind_is code (Some state) cells = refl
 
--- The chain has the answer to its first cell, and what is behind that.
+-- The chain has the answer to its first cell, and then what comes after it.
 pub first_answer : (code state : List ℤ) (cell : Cell) (cells : List Cell) (one : Answered) → IsProven one → one.row ≡ cell.row
     → one.key ≡ key_at code state cell → chain_of code state (cell ∷ cells) ≡ one ∷ behind code (whole_state one) cells
 unfolding chain_of
@@ -40,7 +40,7 @@ first_answer code state cell cells one proven row key =
     ap (option_map (answer_at cell.row (key_at code state cell))) meant ∙ (λ i. Some (answer_at (sym row i) (sym key i) one.answer)) in
     ap (λ l. followed_by l (λ after. chain meaning code after cells)) made ∙ ap (λ rest. one ∷ rest) (behind_is code (whole_state one) cells)
 
--- Answers to which one was added, and then what is behind it.
+-- Answers to which one was added, and then what comes after it.
 pub all_appended : (old now new rest all : List Answered) (one : Answered) → now ≡ old ++ one ∷ [] → new ≡ now ++ rest → all ≡ one ∷ rest
     → new ≡ old ++ all
 all_appended old now new rest all one added more is =
@@ -67,7 +67,7 @@ pub after_long : (one : Answered) (state : List ℤ) (count : ℕ) → IsProven 
 after_long one state count proven is long =
     subst (IsLong count) is (whole_long count (length one.key.state) one.key.step one.answer proven.each_state long)
 
--- What is behind an answer, where a state is after its whole step, and where none is.
+-- What comes after an answer, where there is a state after its whole step, and where there is none.
 pub behind_is_after : (code : List ℤ) (after : Option (List ℤ)) (state : List ℤ) (cells : List Cell) → after ≡ Some state
     → behind code after cells ≡ chain_of code state cells
 behind_is_after code after state cells is = ap (λ o. behind code o cells) is
@@ -75,7 +75,7 @@ behind_is_after code after state cells is = ap (λ o. behind code o cells) is
 pub behind_is_none : (code : List ℤ) (after : Option (List ℤ)) (cells : List Cell) → after ≡ None → behind code after cells ≡ []
 behind_is_none code after cells is = ap (λ o. behind code o cells) is
 
--- ---- The first cell is worked off
+-- ---- The first cell is answered
 
 pub no_cells : (cells : List Cell) → length cells < 1 → cells ≡ []
 no_cells [] none = refl
@@ -90,7 +90,7 @@ pub behind_fit : (P : Cell → Type 0) (cells : List Cell) → 1 ≤ length cell
 behind_fit P [] some all = absurd (omega (arith, some))
 behind_fit P (first ∷ cells) some all = subst (AllByRecursion P) (sym (take_all (length (first ∷ cells) - 1) cells (omega arith))) all.1
 
--- The key of the step at a cell, as it is wanted.
+-- The key of the step at a cell, as it is required.
 abbrev pub key_with : Compiled → List ℤ → List ℤ → Cell → StepKey
 key_with image state inputs cell =
     record { code = program_words image.program; state = state; inputs = inputs; time = cell.time; step = cell.step }
@@ -107,7 +107,7 @@ step_chain image state inputs cells cell one some first fed proven row key =
     ap (chain_of (code_of image) state) (cells_are cells cell some first)
     ∙ first_answer (code_of image) state cell (take (length cells - 1) (drop 1 cells)) one proven row (key_there image state inputs cell one.key key fed)
 
--- What is appended behind the first answer is appended behind all.
+-- What is appended after the first answer is appended after all.
 pub whole_on : {E : Type 0} (old now new rest all : List Answered) (one : Answered) (r : Result (Unit {0}) E) → now ≡ old ++ one ∷ [] → all ≡ one ∷ rest
     → OnOk r (new ≡ now ++ rest) → OnOk r (new ≡ old ++ all)
 whole_on old now new rest all one (Ok x) added is more = all_appended old now new rest all one added more is

@@ -1,4 +1,4 @@
--- Chains of answers: what a state and a line of planned cells give from scratch, and what answers leave to be done of it.
+-- Chains of answers: the answers that a state and a line of planned cells determine, and which of them are still needed.
 use Rattle.std.specs.Prelude.{◌≡◌, ℕ, ◌==◌, ℤ, List, [], ◌∷◌, ◌++◌, Bool, false, ◌&&◌, length, take, drop, if◌then◌else◌}
 use Rattle.std.specs.Prelude.{nat_le, Option, Some, None, Result, Ok, Err}
 use Rattle.std.specs.Cmp.Lexicographic.{pointwise}
@@ -15,7 +15,7 @@ use Rattle.unit_vm.specs.Programs.{program_words}
 
 -- ---- Keys
 
--- The code of an image, as it stands in keys.
+-- The code of an image, as keys have it.
 unfoldable pub code_of : Compiled → List ℤ
 code_of image = program_words image.program
 
@@ -23,7 +23,7 @@ code_of image = program_words image.program
 abbrev pub key_at : List ℤ → List ℤ → Cell → StepKey
 key_at code state cell = record { code = code; state = state; inputs = cell.inputs; time = cell.time; step = cell.step }
 
--- Whether two keys are the same.
+-- Whether two keys are equal.
 abbrev pub same_words : List ℤ → List ℤ → Bool
 same_words = pointwise int_eq
 
@@ -42,38 +42,38 @@ state_of_whole step (Err fault) = None
 abbrev pub whole_state : Answered → Option (List ℤ)
 whole_state one = state_of_whole one.key.step one.answer
 
--- An answer, where there is one, and what follows from the state after its whole step.
+-- An answer, where there is one, and then what follows from the state after its whole step.
 abbrev pub followed_by : Option Answered → (Option (List ℤ) → List Answered) → List Answered
 followed_by None others = []
 followed_by (Some one) others = one ∷ others (whole_state one)
 
--- The answer at a row of a key.
+-- The answer with a row, a key and a result.
 abbrev pub answer_at : ℕ → StepKey → Result Moved Fault → Answered
 answer_at row key answer = record { row = row; key = key; answer = answer }
 
 module _ (meaning : StepKey → Option (Result Moved Fault)) where
-  -- The answer at a cell from a state, by what its key means.
+  -- The answer at a cell from a state, by the meaning of its key.
   abbrev pub link : List ℤ → List ℤ → Cell → Option Answered
   link code state cell = option_map (answer_at cell.row (key_at code state cell)) (meaning (key_at code state cell))
 
-  -- The chain of a line: the answer at the first cell from the state, and then that of the rest from the state after its whole
-  -- step. Where there is no such state, the chain ends.
+  -- The chain of a line: the answer at the first cell from the state, and then the chain of the other cells from the state after its
+  -- whole step. Where there is no such state, the chain ends.
   abbrev pub chain : List ℤ → Option (List ℤ) → List Cell → List Answered
   chain code state [] = []
   chain code None (cell ∷ cells) = []
   chain code (Some state) (cell ∷ cells) = followed_by (link code state cell) (λ after. chain code after cells)
 
--- The chain by what keys mean.
+-- The chain by the meanings of keys.
 unfoldable pub chain_of : List ℤ → List ℤ → List Cell → List Answered
 chain_of code state line = chain meaning code (Some state) line
 
--- Answers begin a list of others.
+-- Answers are a prefix of a list of others.
 abbrev pub Begins : List Answered → List Answered → Type 0
 Begins ones all = take (length ones) all ≡ ones
 
--- ---- What is needed next
+-- ---- The next needed step
 
--- The row and the key of a step that is needed.
+-- The row and the key of a needed step.
 pub record Need : Type 0 where
   pub row : ℕ
   pub key : StepKey
@@ -88,7 +88,7 @@ abbrev pub need_at : List ℤ → Option (List ℤ) → List Cell → Option Nee
 need_at code (Some state) (cell ∷ cells) = Some (record { row = cell.row; key = key_at code state cell })
 need_at code _ _ = None
 
--- What is needed next: the first planned cell without an answer, with the state before it.
+-- The next needed step: that of the first planned cell without an answer, from the state before it.
 abbrev pub need_of : List ℤ → List ℤ → List Cell → List Answered → Option Need
 need_of code state line answers = need_at code (ahead (Some state) answers) (drop (length answers) line)
 
@@ -97,11 +97,11 @@ is_same_need one other = (one.row == other.row) && is_same_key one.key other.key
 
 -- ---- Which answers are kept, and which are appended
 
--- Whether an answer is that at a row of a key.
+-- Whether an answer has this row and this key.
 abbrev pub is_next : ℕ → StepKey → Answered → Bool
 is_next row key one = (row == one.row) && is_same_key key one.key
 
--- The longest beginning of some answers that has the rows and the keys of others, in sequence.
+-- The longest prefix of some answers that has the rows and the keys of others, in sequence.
 abbrev pub common : List Answered → List Answered → List Answered
 common [] others = []
 common (one ∷ ones) [] = []
@@ -116,11 +116,11 @@ abbrev pub asks_for : Option Need → Answered → Bool
 asks_for None one = false
 asks_for (Some need) one = is_next need.row need.key one
 
--- The answers with one more at the end, where it is what is needed next.
+-- The answers with one more at the end, where it answers the next needed step.
 abbrev pub with_next : List ℤ → List ℤ → List Cell → List Answered → Answered → List Answered
 with_next code state line answers one = if asks_for (need_of code state line answers) one then answers ++ one ∷ [] else answers
 
--- The same of some, one after the other.
+-- The same of several answers, one after the other.
 abbrev pub with_posted : List ℤ → List ℤ → List Cell → List Answered → List Answered → List Answered
 with_posted code state line answers [] = answers
 with_posted code state line answers (one ∷ ones) = with_posted code state line (with_next code state line answers one) ones

@@ -1,4 +1,4 @@
--- What happens to a lane: publish, take, post, back and find.
+-- The events of a lane: publish, take, post, back and find.
 use Rattle.std.specs.Prelude.{ℕ, ◌==◌, ◌-◌, ℤ, Bool, not, ◌&&◌, ◌||◌, List, [], ◌∷◌, length, drop, Option, Some, None, is_some, if◌then◌else◌}
 use Rattle.std.specs.Option.{option_map, option_eq}
 use Rattle.guess_board.specs.Chains.{Need, chain_of, code_of, common, left_of, is_same_key, is_same_need, with_posted}
@@ -9,7 +9,7 @@ use Rattle.unit_answers.specs.Answers.{Answered}
 use Rattle.unit_answers.specs.Keys.{StepKey}
 use Rattle.unit_exec.specs.Images.{Compiled}
 
--- A lane at its opening: at the start state, with nothing planned.
+-- A lane at its opening: at the start state, without planned steps.
 abbrev pub opened : Compiled → ℕ → LaneState
 opened image instance =
     record { image = image; instance = instance; row = 0; state = image.start; line = []; answers = []; journal = no_records }
@@ -20,16 +20,16 @@ is_full lane = is_full_journal lane.journal
 
 -- ---- Publish
 
--- The answers that are kept for a new front: of those at or above the first planned row the longest run that begins the new
--- chain, by rows and keys.
+-- The answers that are kept for a new state and line: of those at or above the first planned row, the longest run that is a
+-- prefix of the new chain, by rows and keys.
 abbrev pub answers_kept : LaneState → List ℤ → List Cell → List Answered
 answers_kept lane state line = common (left_of line lane.answers) (chain_of (code_of lane.image) state line)
 
--- A lane with a new front.
+-- A lane with a new row, state and line.
 abbrev pub moved_to : LaneState → ℕ → List ℤ → List Cell → LaneState
 moved_to lane row state line = record lane { row = row; state = state; line = line; answers = answers_kept lane state line }
 
--- A publish cuts exactly where what is needed next changed.
+-- A publish cuts exactly where the next needed step changed.
 abbrev pub is_cut : LaneState → LaneState → Bool
 is_cut old new = not (option_eq is_same_need (lane_need old) (lane_need new))
 
@@ -41,7 +41,7 @@ published lane row state line = record (moved_to lane row state line) {
 
 -- ---- Take
 
--- The next ticket of a lane, for what it needs next and the planned cells behind that.
+-- The next ticket of a lane, for its next needed step and the planned cells after it.
 abbrev pub ticket_for : LaneState → Need → TicketState
 ticket_for lane need = record {
   instance = lane.instance;
@@ -50,11 +50,11 @@ ticket_for lane need = record {
   cells = drop (length lane.answers) lane.line;
 }
 
--- The ticket that a lane gives. There is none where nothing is needed, where one is current, and where the lane is full.
+-- The ticket that a lane makes. There is none where no step is needed, where a ticket is current, and where the lane is full.
 abbrev pub ticket_of : LaneState → Option TicketState
 ticket_of lane = if is_full lane || is_some lane.journal.current then None else option_map (ticket_for lane) (lane_need lane)
 
--- A lane after a take, by the ticket that it gave.
+-- A lane after a take, by the ticket that it made.
 abbrev pub with_taken : LaneState → Option TicketState → LaneState
 with_taken lane None = lane
 with_taken lane (Some ticket) = record lane { journal = with_ticket lane.journal ticket.number }
@@ -68,7 +68,7 @@ taken lane = with_taken lane (ticket_of lane)
 abbrev pub is_of : LaneState → TicketState → Bool
 is_of lane ticket = (ticket.instance == lane.instance) && is_listed ticket.number lane.journal.outstanding
 
--- A lane with the answers that were posted, each where it was what was needed next.
+-- The answers of a lane after some were posted, each of which is appended where it answers the next needed step.
 abbrev pub answers_with : LaneState → List Answered → List Answered
 answers_with lane ones = with_posted (code_of lane.image) lane.state lane.line lane.answers ones
 
@@ -83,7 +83,7 @@ posted lane number ones = record lane {
 abbrev pub backed : LaneState → ℕ → LaneState
 backed lane number = record lane { journal = with_back lane.journal number }
 
--- What is found of a key: the first answer, where it is that of the key. Its row is not asked.
+-- The answer that is found for a key: the first one, where it is that of the key. Its row doesn't matter.
 abbrev pub first_of : StepKey → List Answered → Option Answered
 first_of key [] = None
 first_of key (one ∷ ones) = if is_same_key one.key key then Some one else None

@@ -16,7 +16,7 @@ pub record Seen : Type 0 where
   pub t : ℕ
   pub step : ℕ
   pub stop : ℕ
-  -- How many ticks a local tick of the component is.
+  -- How many ticks of the system a local tick of the component is.
   pub factor : ℕ
   -- The words of the inputs there, and at the row before.
   pub last : List ℤ
@@ -25,7 +25,7 @@ pub record Seen : Type 0 where
   pub low : List ℤ
   pub high : List ℤ
 
--- What an outlook tells, as plain lists.
+-- The contents of an outlook, as plain lists.
 abbrev pub seen_of : Outlook → Seen
 seen_of outlook = record {
   row = outlook.row;
@@ -39,8 +39,8 @@ seen_of outlook = record {
   high = outlook.high.now;
 }
 
--- An outlook from which lines are guessed: the step is in a run, the clock has a factor, and there are as many words of each kind, with
--- ends in their order.
+-- An outlook from which lines are guessed: its step is in a run, its clock has a factor, and there are as many words of each kind,
+-- of which no least word is above the greatest.
 pub record IsOutlook (seen : Seen) : Type 0 where
   pub rows : seen.row + 16 < 2 ^ 64
   pub start : seen.t ≤ seen.stop
@@ -60,13 +60,13 @@ pub record Inputs : Type 0 where
 abbrev pub inputs_are : List ℤ → List ℤ → Inputs
 inputs_are words before = record { words = words; before = before }
 
--- The words at the next row: they stay, or each goes on in a straight line, where the sum wraps to 64 bits and is then brought within
--- the ends of its type.
+-- The words at the next row: they stay, or each continues in a straight line, where the sum wraps to 64 bits and is then clamped
+-- to the range of its type.
 abbrev pub go_on : Policy → List ℤ → List ℤ → Inputs → Inputs
 go_on Hold low high inputs = inputs
 go_on Linear low high inputs = inputs_are (guesses inputs.words inputs.before low high) inputs.words
 
--- The words at a row, told by how many rows come before it.
+-- The words at a row, which is given by how many rows come before it.
 abbrev pub guessed_inputs : Policy → Seen → ℕ → Inputs
 guessed_inputs policy seen zero = inputs_are seen.last seen.before
 guessed_inputs policy seen (suc j) = go_on policy seen.low seen.high (guessed_inputs policy seen j)
@@ -79,11 +79,11 @@ planned_time seen j = seen.t + j * seen.step
 abbrev pub planned_step : Seen → ℕ → ℕ
 planned_step seen j = min seen.step (seen.stop - planned_time seen j)
 
--- Rows before the stop are planned; where the step is 0, the first one alone.
+-- Rows before the stop are planned. Where the step is 0, only the first one is.
 abbrev pub is_planned : ℕ → ℕ → ℕ → ℕ → Bool
 is_planned t step stop j = nat_lt t stop && (not (step == 0) || (j == 0))
 
--- The cell of a step, where a local tick begins in it or it is 0.
+-- The cell of a step, where a local tick ends in the step or its length is 0.
 abbrev pub cells_of_step : ℕ → ℕ → ℕ → ℕ → List ℤ → List Cell
 cells_of_step row t step factor words =
     if (step == 0) || nat_lt 0 (local_step factor t step) then record {

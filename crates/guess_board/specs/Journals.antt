@@ -1,4 +1,4 @@
--- The journal of a lane, and what it adds up to.
+-- The journal of a lane, and the counts that follow from it.
 use Rattle.std.specs.Prelude.{◌≡◌, ℕ, suc, ◌+◌, ◌-◌, ◌*◌, ◌^◌, ◌≤◌, ◌==◌, Bool, true, false, List, [], ◌∷◌, ◌++◌, length, nat_lt}
 use Rattle.std.specs.Prelude.{Option, Some, None, IfSome, if◌then◌else◌}
 use Rattle.std.specs.List.{list_any}
@@ -13,7 +13,7 @@ use Rattle.guess_board.specs.declared.journal.Record.TheVariants.{Published, Tak
 abbrev pub is_listed : ℕ → List ℕ → Bool
 is_listed n ns = list_any (λ m. m == n) ns
 
--- The numbers without the first that is this one.
+-- The numbers without the first one that is equal to this one.
 abbrev pub without : ℕ → List ℕ → List ℕ
 without n [] = []
 without n (m ∷ ms) = if m == n then ms else m ∷ without n ms
@@ -23,7 +23,7 @@ abbrev pub unless_ended : ℕ → Option ℕ → Option ℕ
 unless_ended n None = None
 unless_ended n (Some m) = if m == n then None else Some m
 
--- A cut leaves no ticket.
+-- The current ticket after a publish: none, where the publish cut.
 abbrev pub current_after : Bool → Option ℕ → Option ℕ
 current_after true current = None
 current_after false current = current
@@ -34,8 +34,8 @@ live_after false live = live
 
 -- ---- Replay
 
--- What the records of a journal add up to: how many tickets were given, were posted and were given back, how many answers were
--- appended, how many answers there are, the numbers of the tickets that are outstanding, and that of the current one.
+-- What follows from the records of a journal: how many tickets were made, posted and given back, and how many answers were appended.
+-- Also how many answers there are, the numbers of the outstanding tickets, and that of the current one.
 pub record Tally : Type 0 where
   pub tickets : ℕ
   pub posted : ℕ
@@ -72,7 +72,7 @@ replay_of records = replay_from no_tally records
 abbrev pub counts_of : Tally → LaneCounts
 counts_of tally = record { tickets = tally.tickets; posted = tally.posted; back = tally.back; appended = tally.appended }
 
--- The tickets that are neither ended nor cut. By the records alone there could be several.
+-- The tickets that have not ended and were not cut. By the records alone there could be several.
 abbrev pub lives_on : List ℕ → Record → List ℕ
 lives_on live (Published kept cut) = live_after cut live
 lives_on live (Taken n) = live ++ n ∷ []
@@ -86,9 +86,9 @@ live_from live (one ∷ others) = live_from (lives_on live one) others
 unfoldable pub live_of : List Record → List ℕ
 live_of records = live_from [] records
 
--- ---- A journal as it is kept
+-- ---- A journal with its state
 
--- Its records, the numbers of the outstanding tickets in the order of their taking, and that of the current one.
+-- A journal: its records, the numbers of the outstanding tickets in the order in which they were made, and that of the current one.
 pub record JournalState : Type 0 where
   pub records : List Record
   pub outstanding : List ℕ
@@ -97,7 +97,7 @@ pub record JournalState : Type 0 where
 abbrev pub no_records : JournalState
 no_records = record { records = []; outstanding = []; current = None }
 
--- It is full where no ticket could be given that ends within the bound on the records.
+-- It is full where another ticket, with the record of its end, would exceed the bound on the records.
 abbrev pub is_full_journal : JournalState → Bool
 is_full_journal journal = nat_lt (2 ^ 32 - 3) (length journal.records + length journal.outstanding)
 
@@ -105,7 +105,7 @@ is_full_journal journal = nat_lt (2 ^ 32 - 3) (length journal.records + length j
 abbrev pub next_ticket : JournalState → ℕ
 next_ticket journal = (replay_of journal.records).tickets
 
--- With the record of a publish, of a ticket, of a post and of a ticket that was given back.
+-- A journal with one more record: of a publish, a new ticket, a post, or a ticket that was given back.
 abbrev pub with_publish : JournalState → ℕ → Bool → JournalState
 with_publish journal kept cut =
     record journal { records = journal.records ++ Published kept cut ∷ []; current = current_after cut journal.current }
@@ -125,14 +125,15 @@ abbrev pub with_back : JournalState → ℕ → JournalState
 with_back journal n =
     record { records = journal.records ++ Back n ∷ []; outstanding = without n journal.outstanding; current = unless_ended n journal.current }
 
--- Numbers rise, are at least the first and below the last.
+-- The numbers rise, are at least the first and below the last.
 abbrev pub RisesBelow : ℕ → List ℕ → ℕ → Type 0
 RisesBelow low [] limit = low ≤ limit
 RisesBelow low (n ∷ ns) limit = (low ≤ n) × RisesBelow (suc n) ns limit
 
--- What is kept of tickets. The outstanding ones and the current one are those of the replay. Each ticket was posted, was given back or is
--- outstanding; no number was given twice; the current ticket is outstanding; and at most one, the current one, is neither ended
--- nor cut. A post appends at most 16 answers. There are never too many records, not even when all outstanding tickets have ended.
+-- The invariant of tickets. The outstanding ones and the current one are those of the replay. Each ticket was posted, was given
+-- back or is outstanding. No number was used twice. The current ticket is outstanding. At most one ticket, the current one, has
+-- not ended and was not cut. A post appends at most 16 answers. There are never too many records, not even when all outstanding
+-- tickets have ended.
 pub record IsBooked (journal : JournalState) : Type 0 where
   pub outstanding_are : (replay_of journal.records).outstanding ≡ journal.outstanding
   pub current_is : (replay_of journal.records).current ≡ journal.current

@@ -1,4 +1,4 @@
--- How a lane is kept.
+-- How the code keeps a lane.
 use Rattle.std.specs.Prelude.{◌≡◌, List, length}
 use Rattle.std.specs.List.{AllByRecursion}
 use Rattle.guess_board.specs.Cells.{FitsLine}
@@ -29,8 +29,8 @@ lane_state lane = record {
 abbrev pub ticket_state : ticket.Inside → TicketState
 ticket_state one = record { instance = one.instance; number = one.number; start = one.start.items; cells = one.cells.items }
 
--- A lane has a slot for each planned cell. The line, the answers and their number are as `IsLane` says; of its journal that is
--- known by the journal itself.
+-- A lane has a slot for each planned cell. The line, the answers and their number are as `IsLane` says. The journal has its own
+-- invariant, which says the rest.
 pub record IsKept (lane : Inside) : Type 0 where
   pub slots : AreSlotsOf lane.line.items lane.slots.entries
   pub line : FitsLine lane.image.value lane.row lane.state.items lane.line.items

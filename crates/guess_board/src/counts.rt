@@ -1,7 +1,7 @@
-/// What happened to the tickets of a lane, in numbers.
+/// Counts of what happened to the tickets of a lane.
 #[derive(Clone, Copy, Debug, PartialEq, Eq)]
 pub struct LaneCounts {
-    /// How many tickets were given.
+    /// How many tickets the lane made.
     pub tickets: u64,
     /// How many of them were posted.
     pub posted: u64,

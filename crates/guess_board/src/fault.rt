@@ -4,7 +4,7 @@ use thiserror::Error;
 /// Why a lane is not published.
 #[derive(Clone, Copy, Debug, PartialEq, Eq, Error)]
 pub enum LaneFault {
-    /// The journal has room for no other ticket.
+    /// The journal has no space for another ticket.
     #[error("the lane is full")]
     Full,
     #[error("no memory")]

@@ -15,9 +15,9 @@ use word_lanes::extrapolate;
 /// How the words of inputs are guessed.
 #[derive(Clone, Copy, Debug, PartialEq, Eq)]
 pub enum Policy {
-    /// They stay as they are.
+    /// They stay unchanged.
     Hold,
-    /// Each goes on in a straight line: the sum wraps to 64 bits, and is then brought within the ends of its type.
+    /// Each continues in a straight line: the sum wraps to 64 bits, and is then clamped to the range of its type.
     Linear,
 }
 
@@ -32,7 +32,7 @@ pub struct Outlook<'a> {
     pub step: u64,
     /// Where the run stops.
     pub stop: u64,
-    /// How many ticks a local tick of the component is.
+    /// How many ticks of the system a local tick of the component is.
     pub factor: u64,
     /// The words of the inputs there.
     pub last: &'a [i64],
@@ -44,14 +44,14 @@ pub struct Outlook<'a> {
     pub high: &'a [i64],
 }
 
-/// Whether a row at a time is planned, with so many rows before it.
+/// Returns whether a row at a time is planned, after so many rows.
 fn is_planned(t: u64, step: u64, stop: u64, rows: u32) -> bool
     ensures { result ≡ is_planned t step stop rows }
 {
     t < stop && (step != 0 || rows == 0)
 }
 
-/// Adds the cell of a step to a line, where a local tick begins in it or it is 0.
+/// Adds the cell of a step to a line, where a local tick ends in the step or its length is 0.
 fn plan(
     alloc: Global,
     line: &mut Vec<Cell>,
@@ -79,7 +79,7 @@ fn plan(
     Ok(())
 }
 
-/// The words of inputs that go on in straight lines.
+/// Computes the words of inputs that continue in straight lines.
 fn straight_on(
     alloc: Global,
     words: &[i64],
@@ -123,8 +123,9 @@ fn go_on(
     }
 }
 
-/// The line that is guessed for a component from a row on: at most one cell for each of `window` rows before the stop, whose steps
-/// are all as long as the first one. A row in which no local tick of the component begins has no cell, but where the step is 0.
+/// Returns the line that is guessed for a component from a row on: at most one cell for each of `window` rows before the stop,
+/// whose steps are all as long as the first one. A row has no cell where no local tick of the component ends in its step, unless
+/// the step has length 0.
 pub fn guess_line(
     alloc: Global,
     policy: Policy,

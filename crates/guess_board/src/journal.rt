@@ -1,4 +1,4 @@
-//! The journal of a lane: a record of each event, and what the records add up to.
+//! The journal of a lane: a record of each event, and the counts that follow from the records.
 ghost use Rattle.std.specs.Prelude.{◌≡◌, ◌<◌, ◌≤◌, ◌++◌, ◌∷◌, [], false, true, IfOk, OnOk, OnErr, None, vec_len};
 ghost use Rattle.std.specs.Vec.{vec_capacity};
 ghost use Rattle.guess_board.specs.Journals.{counts_of, current_after, is_listed, is_full_journal, next_ticket, no_records, replay_of};
@@ -12,9 +12,9 @@ use std::marker::Model;
 /// What happened to a lane.
 #[derive(Clone, Copy, Debug)]
 pub enum Record {
-    /// It was published, and kept so many answers; what it needs next changed by that, or not.
+    /// It was published, and kept so many answers. `cut` says whether the next needed step changed by that.
     Published { kept: u32, cut: bool },
-    /// It gave a ticket.
+    /// It made a ticket.
     Taken { ticket: u64 },
     /// A ticket was posted, and so many answers were appended.
     Posted { ticket: u64, appended: u32 },
@@ -22,17 +22,17 @@ pub enum Record {
     Back { ticket: u64 },
 }
 
-/// A journal is full where its records and outstanding tickets are more than this together. So they never come to more than
-/// 2^32 - 1: a ticket adds its own record and, as long as it is outstanding, the place for that of its end.
+/// A journal is full where its records and outstanding tickets together are more than this. So there are never more than 2^32 - 1
+/// records: a ticket adds its own record and, as long as it is outstanding, reserves the place for the record of its end.
 const LIMIT: usize = (1 << 32) - 3;
 
-/// The records of a lane, and what they add up to.
+/// The records of a lane, and the counts that follow from them.
 #[derive(Drop)]
 pub(crate) struct Journal {
     records: Vec<Record>,
     /// The numbers of the tickets that were neither posted nor given back.
     outstanding: Vec<u64>,
-    /// The number of the ticket that answers what the lane needs, where there is one.
+    /// The number of the current ticket, which answers what the lane needs next, where there is one.
     current: Option<u64>,
     counts: LaneCounts,
 }
@@ -49,7 +49,7 @@ impl Model for Journal {
     ghost invariant = { IsJournal };
 }
 
-/// Notes a record where there is room for it.
+/// Adds a record where there is space for it.
 fn note(records: &mut Vec<Record>, one: Record)
     requires { vec_len records.old < vec_capacity records.old }
     ensures items { records.new.items ≡ records.old.items ++ one ∷ [] }
@@ -58,7 +58,7 @@ fn note(records: &mut Vec<Record>, one: Record)
     let _ = records.push(one);
 }
 
-/// Takes a number out of some, where it is among them.
+/// Removes a number from some, where it is among them.
 fn remove(outstanding: &mut Vec<u64>, ticket: u64)
     ensures { outstanding.new.items ≡ without ticket outstanding.old.items }
 {
@@ -70,7 +70,7 @@ fn remove(outstanding: &mut Vec<u64>, ticket: u64)
     }
 }
 
-/// The current ticket after an end of a ticket.
+/// Returns the current ticket after a ticket ended: `None`, where it was this one.
 fn unless_ended(current: Option<u64>, ended: u64) -> Option<u64>
     ensures { result ≡ unless_ended ended current }
 {
@@ -80,7 +80,7 @@ fn unless_ended(current: Option<u64>, ended: u64) -> Option<u64>
     }
 }
 
-/// The current ticket after a publish.
+/// Returns the current ticket after a publish: `None`, where the publish cut.
 fn current_after(current: Option<u64>, cut: bool) -> Option<u64>
     ensures { result ≡ current_after cut current }
 {
@@ -88,7 +88,7 @@ fn current_after(current: Option<u64>, cut: bool) -> Option<u64>
 }
 
 impl Journal {
-    /// A journal without records.
+    /// Returns a journal without records.
     pub(crate) fn new(alloc: Global) -> Journal
         ensures { result ≡ no_records }
     {
@@ -100,42 +100,42 @@ impl Journal {
         }
     }
 
-    /// What every journal keeps.
+    /// States the invariant of every journal.
     pub(crate) fn facts(&self)
         ensures { IsBooked self.now }
     {
         let _ = &self.counts;
     }
 
-    /// Whether it has no room for another ticket.
+    /// Returns whether it has no space for another ticket.
     pub(crate) fn is_full(&self) -> bool
         ensures { result ≡ is_full_journal self.now }
     {
         self.records.len() + self.outstanding.len() > LIMIT
     }
 
-    /// The number of the current ticket.
+    /// Returns the number of the current ticket, if there is one.
     pub(crate) fn current(&self) -> Option<u64>
         ensures { result ≡ self.now.current }
     {
         self.current
     }
 
-    /// Whether a ticket is outstanding.
+    /// Returns whether a ticket is outstanding.
     pub(crate) fn is_outstanding(&self, ticket: u64) -> bool
         ensures { result ≡ is_listed ticket self.now.outstanding }
     {
         self.outstanding.contains(&ticket)
     }
 
-    /// The counts of its records.
+    /// Returns the counts of its records.
     pub(crate) fn counts(&self) -> LaneCounts
         ensures { result ≡ counts_of (replay_of self.now.records) }
     {
         self.counts
     }
 
-    /// Notes a publish.
+    /// Records a publish.
     pub(crate) fn publish(&mut self, kept_answers: u32, cut: bool) -> Result<(), NoMemory>
         requires room { is_full_journal self.old ≡ false }
         ensures noted { OnOk result (self.new ≡ with_publish self.old kept_answers cut) }
@@ -153,7 +153,7 @@ impl Journal {
         Ok(())
     }
 
-    /// Gives the number of a new ticket, which is the current one from now on.
+    /// Records a new ticket, which is the current one from now on. Returns its number.
     pub(crate) fn take(&mut self) -> Result<u64, NoMemory>
         requires room { is_full_journal self.old ≡ false }
         requires free { self.old.current ≡ None }
@@ -170,7 +170,7 @@ impl Journal {
         Ok(ticket)
     }
 
-    /// Ends a ticket that was posted. No memory is taken.
+    /// Ends a ticket that was posted. Takes no memory.
     pub(crate) fn post(&mut self, ticket: u64, appended: u32)
         requires outstanding { is_listed ticket self.old.outstanding ≡ true }
         requires few { appended ≤ 16 }
@@ -183,7 +183,7 @@ impl Journal {
         self.counts.appended += u64::from(appended);
     }
 
-    /// Ends a ticket that was given back. No memory is taken.
+    /// Ends a ticket that was given back. Takes no memory.
     pub(crate) fn give_back(&mut self, ticket: u64)
         requires outstanding { is_listed ticket self.old.outstanding ≡ true }
         ensures { self.new ≡ with_back self.old ticket }

@@ -25,9 +25,9 @@ use unit_exec::{Image, Want};
 /// The planned steps of one instance, and the answers to the first of them.
 ///
 /// A lane is published with the state of its instance at a row and with the steps that are planned from there on
-/// ([`Lane::publish`]). It gives the steps that have no answer as a [`Ticket`] ([`Lane::take`]), whose answers are posted
-/// ([`Lane::post`]), or which is given back ([`Lane::back`]). [`Lane::find`] looks for an answer at the front. Of what was answered it
-/// keeps as much as fits what is published next.
+/// ([`Lane::publish`]). It gives out the steps without an answer as a [`Ticket`] ([`Lane::take`]). The answers to a ticket are
+/// posted ([`Lane::post`]), or the ticket is given back ([`Lane::back`]). [`Lane::find`] looks at the first answer. When it is
+/// published again, a lane keeps those answers that fit the new plan.
 #[derive(Drop)]
 pub struct Lane {
     image: Arc<Image>,
@@ -52,7 +52,7 @@ impl Model for Lane {
 }
 
 impl Lane {
-    /// A lane of an instance with its image, at the start state and with nothing planned.
+    /// Opens a lane of an instance with its image, at the start state and without planned steps.
     pub fn open(alloc: Global, image: Arc<Image>, instance: u32) -> Result<Lane, NoMemory>
         ensures { IfOk result (λ lane. lane ≡ opened image.value instance) }
     {
@@ -68,21 +68,21 @@ impl Lane {
         })
     }
 
-    /// The image with which it was opened.
+    /// Returns the image with which it was opened.
     pub fn image(&self) -> &Arc<Image>
         ensures { result.now.value ≡ self.now.image }
     {
         &self.image
     }
 
-    /// What every lane keeps.
+    /// States the invariant of every lane.
     pub fn facts(&self)
         ensures { IsLane self.now }
     {
         self.journal.facts();
     }
 
-    /// How many tickets were given, were posted and were given back, and how many answers were appended.
+    /// Returns how many tickets were made, were posted and were given back, and how many answers were appended.
     pub fn counts(&self) -> LaneCounts
         ensures counts { result ≡ counts_of (replay_of self.now.journal.records) }
         ensures tickets { result.tickets < 2 ^ 32 }
@@ -93,23 +93,23 @@ impl Lane {
         self.journal.counts()
     }
 
-    /// Whether it has no room for another ticket.
+    /// Returns whether it has no space for another ticket.
     fn is_full(&self) -> bool
         ensures { result ≡ is_full self.now }
     {
         self.journal.is_full()
     }
 
-    /// The first answer, where it is that of the step that is wanted. No memory is taken.
+    /// Returns the first answer, where it is that of the required step. Takes no memory.
     pub fn find(&self, want: Want<'_>) -> Option<&Proven>
         ensures { option_copied result ≡ found self.now (key_of want.entry) }
     {
         find(self.slots.values().as_slice(), want)
     }
 
-    /// Sets the row, the state and the line at the front. Of the answers at or above the first planned row it keeps the longest
-    /// run that begins the chain of the new state and line, matched in sequence, and tells how many these are. Where what is
-    /// needed next changed, there is no current ticket from now on.
+    /// Sets the row and the state of the lane, and the line of planned steps from there on. Of the answers at or above the first
+    /// planned row, the lane keeps the longest run that is a prefix of the chain of the new state and line, matched in sequence.
+    /// Returns how many these are. Where the next needed step changed, there is no current ticket from now on.
     ///
     /// # Errors
     ///
@@ -148,8 +148,8 @@ impl Lane {
         Ok(kept as u32)
     }
 
-    /// A ticket for the planned steps that have no answer. There is none where nothing is needed, where one is current, and where
-    /// the lane is full.
+    /// Makes a ticket for the planned steps without an answer. Returns `None` where no step is needed, where a ticket is current, and
+    /// where the lane is full.
     ///
     /// # Errors
     ///
@@ -176,19 +176,19 @@ impl Lane {
         }))
     }
 
-    /// Whether a ticket is of this lane: of its instance, and outstanding.
+    /// Returns whether a ticket is of this lane: of its instance, and outstanding.
     fn is_of(&self, ticket: &Ticket) -> bool
         ensures { result ≡ is_of self.now ticket.now }
     {
         ticket.instance() == self.instance && self.journal.is_outstanding(ticket.number())
     }
 
-    /// Ends a ticket with answers: goes through them in order, appends each that is what is needed next at that moment, and tells how
-    /// many these are. No memory is taken.
+    /// Ends a ticket with answers. Goes through them in order, and appends each that answers the next needed step at that moment.
+    /// Returns how many these are. Takes no memory.
     ///
     /// # Errors
     ///
-    /// The ticket, exactly where it is not of this lane. The lane is as before.
+    /// Returns the ticket, exactly where it is not of this lane. The lane is as before.
     pub fn post(&mut self, ticket: Ticket, answers: Vec<Proven>) -> Result<u32, Ticket>
         ensures own { is_ok result ≡ is_of self.old ticket }
         ensures posted { OnOk result (self.new ≡ posted self.old ticket.number answers.items) }
@@ -210,11 +210,11 @@ impl Lane {
         Ok(appended)
     }
 
-    /// Ends a ticket without an answer. No memory is taken.
+    /// Ends a ticket without an answer. Takes no memory.
     ///
     /// # Errors
     ///
-    /// The ticket, exactly where it is not of this lane. The lane is as before.
+    /// Returns the ticket, exactly where it is not of this lane. The lane is as before.
     pub fn back(&mut self, ticket: Ticket) -> Result<(), Ticket>
         ensures own { is_ok result ≡ is_of self.old ticket }
         ensures backed { OnOk result (self.new ≡ backed self.old ticket.number) }

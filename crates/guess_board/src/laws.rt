@@ -1,12 +1,12 @@
-//! Laws of chains, of what is kept for them, and of tickets.
+//! Laws of chains, of the answers that are kept for them, and of tickets.
 ghost use Rattle.guess_board.specs.Laws.{ChainsAreShort, ChainsGoOn, KeptRunsAreLongest, NeedsAreAnsweredNext, TicketsFit};
 
-/// A law: a chain goes on where its beginning stops.
+/// A law: a chain continues where a prefix of it ends.
 pub fn chains_go_on()
     ensures { ChainsGoOn }
 {}
 
-/// A law: behind answers that begin a chain, the chain has the answer to what is needed next.
+/// A law: after answers that are a prefix of a chain, the chain has the answer to the next needed step.
 pub fn needs_are_answered_next()
     ensures { NeedsAreAnsweredNext }
 {}
@@ -16,12 +16,12 @@ pub fn chains_are_short()
     ensures { ChainsAreShort }
 {}
 
-/// A law: what is kept of answers for a chain is the longest run of them that begins it, by rows and keys.
+/// A law: the answers that are kept for a chain are their longest run that is a prefix of it, by rows and keys.
 pub fn kept_runs_are_longest()
     ensures { KeptRunsAreLongest }
 {}
 
-/// A law: a ticket that a lane gives fits its image.
+/// A law: a ticket that a lane makes fits its image.
 pub fn tickets_fit()
     ensures { TicketsFit }
 {}

@@ -1,15 +1,21 @@
 //! Lanes: steps of instances that are planned ahead, and their answers.
 //!
-//! A [`Lane`] serves one instance of a run. It is published with the state of the instance at a row and with a line of planned
-//! steps, as [`guess_line`] guesses them; it gives a [`Ticket`] for those that have no answer, takes the answers of a ticket where
-//! they are what it needs next, and keeps of what was answered as much as fits the next front. So whatever was guessed, and whoever
-//! answered, its answers begin the chain of answers that its state and line give from scratch.
+//! A [`Lane`] is for one instance of a run. It is published with the state of the instance at a row and with a line of planned
+//! steps, which [`guess_line`] guesses. It makes a [`Ticket`] for those without an answer. It accepts the answers to a ticket where
+//! each is the next one that it needs. When it is published again, it keeps the answers that fit the new plan. So for any guesses,
+//! and whoever answers, its answers are a prefix of the chain that its state and line determine.
 //!
-//! The layer above uses all that is named here; a [`Record`] is what contracts see of a journal. Definitions: `specs/Cells.antt`
-//! (planned cells), `specs/Chains.antt` (chains, what is needed next, what is kept and appended), `specs/Journals.antt` (journals
-//! and their replay), `specs/Lanes.antt` (lanes, tickets, and what each keeps), `specs/Events.antt` (what each call does),
-//! `specs/Guesses.antt` (guessed lines), `specs/Laws.antt`. `specs/Booking.antt`, `Keeping.antt`, `Matching.antt` and
-//! `Slots.antt`, which need not be believed, say how it is gone about.
+//! The layer above uses all that is named here. A [`Record`] is what contracts see of an event in a journal. Definitions:
+//!
+//! - `specs/Cells.antt`: planned cells
+//! - `specs/Chains.antt`: chains, the next needed step, which answers are kept and appended
+//! - `specs/Journals.antt`: journals and their replay
+//! - `specs/Lanes.antt`: lanes, tickets, and their invariants
+//! - `specs/Events.antt`: the effect of each call
+//! - `specs/Guesses.antt`: guessed lines
+//! - `specs/Laws.antt`: laws
+//!
+//! `specs/Booking.antt`, `Keeping.antt`, `Matching.antt` and `Slots.antt` describe how the code proceeds; no promise depends on them.
 #![tactic(auto)]
 
 mod cell;

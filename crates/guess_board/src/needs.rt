@@ -1,4 +1,4 @@
-//! What a lane needs next, and which answers are it.
+//! The step that a lane needs next, and which answers are answers to it.
 ghost use Rattle.std.specs.Prelude.{◌≡◌, ◌≤◌, ℤ, List, length, drop, IfSome};
 ghost use Rattle.std.specs.Option.{option_copied, option_eq, option_map};
 ghost use Rattle.guess_board.specs.Chains.{code_of, is_next, is_same_need, key_at, need_of, whole_state};
@@ -10,7 +10,7 @@ use std::sync::Arc;
 use unit_answers::{Answer, Proven, same_key};
 use unit_exec::{Image, Want};
 
-/// What is needed next: a planned cell, the state before it, and the planned cells from it on.
+/// The next needed step: a planned cell, the state before it, and the planned cells from it on.
 #[derive(Clone, Copy)]
 pub(crate) struct Needed<'a> {
     pub(crate) state: &'a [i64],
@@ -18,7 +18,7 @@ pub(crate) struct Needed<'a> {
     pub(crate) cells: &'a [Cell],
 }
 
-/// The state after an answer that accepted its whole step.
+/// Returns the state after an answer that accepted its whole step, or `None` for any other answer.
 pub(crate) fn whole_state(one: &Proven) -> Option<&[i64]>
     ensures { option_copied result ≡ whole_state one.now }
 {
@@ -28,7 +28,7 @@ pub(crate) fn whole_state(one: &Proven) -> Option<&[i64]>
     }
 }
 
-/// Whether an answer is that at a cell from a state.
+/// Returns whether an answer is that at a cell from a state.
 pub(crate) fn is_next(one: &Proven, image: &Arc<Image>, state: &[i64], cell: &Cell) -> bool
     ensures { result ≡ is_next cell.now.row (key_at (code_of image.now.value) state.now cell.now) one.now }
 {
@@ -43,7 +43,8 @@ pub(crate) fn is_next(one: &Proven, image: &Arc<Image>, state: &[i64], cell: &Ce
     cell.row == one.row() && same_key(one, want)
 }
 
-/// What is needed next of a line: its first cell without an answer, where all answers before it accepted their whole steps.
+/// Returns the next needed step of a line: its first cell without an answer, where all answers before it accepted their whole
+/// steps.
 pub(crate) fn need<'a>(
     state: &'a [i64],
     line: &'a [Cell],
@@ -64,7 +65,7 @@ pub(crate) fn need<'a>(
     }
 }
 
-/// Whether the same is needed.
+/// Returns whether the same step is needed.
 pub(crate) fn is_same_need(one: Option<Needed<'_>>, other: Option<Needed<'_>>) -> bool
     ensures { (code : List ℤ) → result ≡ option_eq is_same_need (option_map (need_told code) one.entry) (option_map (need_told code) other.entry) }
 {
@@ -75,7 +76,7 @@ pub(crate) fn is_same_need(one: Option<Needed<'_>>, other: Option<Needed<'_>>) -
     }
 }
 
-/// Whether two cells are the same.
+/// Returns whether two cells are equal.
 fn is_same_cell(one: &Cell, other: &Cell) -> bool
     ensures { result ≡ is_same_cell one.now other.now }
 {
@@ -83,7 +84,7 @@ fn is_same_cell(one: &Cell, other: &Cell) -> bool
         && one.inputs.as_slice() == other.inputs.as_slice()
 }
 
-/// How many answers of rows below one stand in front.
+/// Returns how many answers at the beginning have rows below this one.
 fn below(row: u64, slots: &[Option<Proven>]) -> usize
     ensures count { result ≡ below row (filled slots.now) }
     ensures within { result ≤ length slots.now }
@@ -94,7 +95,7 @@ fn below(row: u64, slots: &[Option<Proven>]) -> usize
     }
 }
 
-/// How many answers of rows below the first planned one stand in front. For an empty line, which keeps none, it is 0.
+/// Returns how many answers at the beginning have rows below the first planned one. For an empty line, which keeps none, it is 0.
 pub(crate) fn passed(line: &[Cell], slots: &[Option<Proven>]) -> usize
     ensures count { result ≡ passed line.now (filled slots.now) }
     ensures within { result ≤ length slots.now }
@@ -105,7 +106,7 @@ pub(crate) fn passed(line: &[Cell], slots: &[Option<Proven>]) -> usize
     }
 }
 
-/// How many answers begin the chain of a line from a state on, matched in sequence.
+/// Returns how many answers are a prefix of the chain of a line from a state on, matched in sequence.
 pub(crate) fn matching(
     image: &Arc<Image>,
     state: &[i64],

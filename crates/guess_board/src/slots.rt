@@ -22,7 +22,7 @@ use unit_exec::{Image, Want};
 /// The answers of a lane: for each planned cell its row, and the answer where there is one.
 pub(crate) type Slots = IndexMap<u64, Option<Proven>>;
 
-/// Empty slots for a line.
+/// Returns empty slots for a line.
 pub(crate) fn empty_slots(alloc: Global, line: &[Cell]) -> Result<Slots, NoMemory>
     requires { RisesFrom 0 line.now }
     ensures { IfOk result (λ slots. slots.entries ≡ entries_of line.now []) }
@@ -34,7 +34,7 @@ pub(crate) fn empty_slots(alloc: Global, line: &[Cell]) -> Result<Slots, NoMemor
     Ok(slots)
 }
 
-/// Moves what so many slots hold, from one on, into the first slots of others.
+/// Moves the contents of so many slots, from one on, to the first slots of others.
 pub(crate) fn move_answers(from: &mut Slots, first: usize, count: usize, into: &mut Slots)
     requires few { length from.old.entries ≤ 16 }
     requires from { first + count ≤ length from.old.entries }
@@ -54,7 +54,7 @@ fn fill(slots: &mut Slots, place: usize, one: Proven)
     slots[place] = Some(one);
 }
 
-/// Puts an answer into the first empty slot, where it is what is needed next, and tells how many were put.
+/// Stores an answer in the first empty slot, where it is the next needed one. Returns how many were stored: 0 or 1.
 fn put(image: &Arc<Image>, state: &[i64], line: &[Cell], slots: &mut Slots, one: Proven) -> u32
     requires { AreSlotsOf line.now slots.old.entries }
     ensures slots { AreSlotsOf line.now slots.new.entries }
@@ -62,7 +62,7 @@ fn put(image: &Arc<Image>, state: &[i64], line: &[Cell], slots: &mut Slots, one:
     ensures count { result + length (filled (slots_in slots.old.entries)) ≡ length (filled (slots_in slots.new.entries)) }
     ensures proven { IsProven one }
 {
-    // What an answer keeps is known by the clause of this call alone.
+    // Called for its clause, which states the invariant of an answer.
     let _ = one.answer();
     let place = match need(state, line, slots.values().as_slice()) {
         Some(needed) if is_next(&one, image, needed.state, needed.cell) => {
@@ -74,7 +74,7 @@ fn put(image: &Arc<Image>, state: &[i64], line: &[Cell], slots: &mut Slots, one:
     1
 }
 
-/// Puts answers one after the other, each where it is what is needed next, and tells how many were put. No memory is taken.
+/// Stores answers one after the other, each where it is the next needed one. Returns how many were stored. Takes no memory.
 pub(crate) fn put_all(
     image: &Arc<Image>,
     state: &[i64],
@@ -96,7 +96,7 @@ pub(crate) fn put_all(
     count
 }
 
-/// The first answer, where it is that of a step that is wanted.
+/// Returns the first answer, where it is that of a required step.
 pub(crate) fn find<'a>(slots: &'a [Option<Proven>], want: Want<'_>) -> Option<&'a Proven>
     ensures { option_copied result ≡ first_of (key_of want.entry) (filled slots.now) }
 {
@@ -104,7 +104,7 @@ pub(crate) fn find<'a>(slots: &'a [Option<Proven>], want: Want<'_>) -> Option<&'
     if same_key(one, want) { Some(one) } else { None }
 }
 
-/// Copies of cells.
+/// Returns copies of cells.
 pub(crate) fn copied(alloc: Global, cells: &[Cell]) -> Result<Vec<Cell>, NoMemory>
     ensures { IfOk result (λ copies. copies.items ≡ cells.now) }
 {

@@ -4,7 +4,7 @@ ghost use Rattle.guess_board.specs.Lanes.{IsTicket};
 use crate::cell::Cell;
 use std::marker::Model;
 
-/// Leave to answer the cells of a lane from a state on, which a lane gives once and takes back once.
+/// A ticket of a lane: its cells from a state on are to be answered. It is posted or given back once.
 #[derive(Drop)]
 pub struct Ticket {
     pub(crate) instance: u32,
@@ -27,28 +27,28 @@ impl Model for Ticket {
 }
 
 impl Ticket {
-    /// The instance of its lane.
+    /// Returns the instance of its lane.
     pub fn instance(&self) -> u32
         ensures { result ≡ self.now.instance }
     {
         self.instance
     }
 
-    /// Its number in that lane, from 0.
+    /// Returns its number in that lane, from 0.
     pub fn number(&self) -> u64
         ensures { result ≡ self.now.number }
     {
         self.number
     }
 
-    /// The state before the first of its cells.
+    /// Returns the state before the first of its cells.
     pub fn start(&self) -> &[i64]
         ensures { result.now ≡ self.now.start }
     {
         &self.start
     }
 
-    /// The cells that it asks for: at least one, with as many words of inputs each.
+    /// Returns its cells: at least one, each with as many words of inputs.
     pub fn cells(&self) -> &[Cell]
         ensures value { result.now ≡ self.now.cells }
         ensures kept { IsTicket self.now }

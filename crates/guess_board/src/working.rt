@@ -1,4 +1,4 @@
-//! Working off tickets.
+//! Answering tickets.
 ghost use Rattle.std.specs.Prelude.{◌≡◌, ◌++◌, take, length, IfOk, OnOk, OnErr};
 ghost use Rattle.std.specs.List.{AllByRecursion};
 ghost use Rattle.std.specs.Option.{option_map};
@@ -16,7 +16,7 @@ use std::sync::Arc;
 use unit_answers::{Proven, prove};
 use unit_exec::{Image, Unit, Want};
 
-/// The state after an answer that accepted its whole step, copied.
+/// Returns the state after an answer that accepted its whole step, copied.
 fn state_after(alloc: Global, one: &Proven) -> Result<Option<Vec<i64>>, NoMemory>
     ensures { IfOk result (λ after. option_map (λ state. state.items) after ≡ whole_state one.now) }
 {
@@ -54,7 +54,7 @@ fn append_chain(
         step: cell.step,
     };
     let one = prove(alloc, unit, want)?;
-    // That the answer is proven is known by the clauses of this call alone.
+    // Called for their clauses, which state that the answer is proven.
     let _ = one.answer();
     let after = state_after(alloc, &one)?;
     answers.push(one)?;
@@ -64,13 +64,13 @@ fn append_chain(
     }
 }
 
-/// Works a ticket off: appends the answers to its first cells, so many at most, each made from the state after the one before, up to
-/// the first that is a fault or accepts less than its step, this one included. The unit is one of the code of the image that the
-/// ticket fits; the state and the inputs that it is left with are open.
+/// Answers a ticket: appends the answers to its first cells, at most `most` of them, each made from the state after the one before.
+/// It ends after the first that is a fault or accepts less than its step. The unit has to be one of the code of the image that the
+/// ticket fits. Afterwards its state and inputs are unspecified.
 ///
 /// # Errors
 ///
-/// [`NoMemory`]. Then `answers` has gained the first of these answers, or none.
+/// [`NoMemory`]. Then a prefix of these answers was appended to `answers`.
 pub fn work_off(
     alloc: Global,
     unit: &mut Unit,

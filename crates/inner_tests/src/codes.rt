@@ -1,10 +1,10 @@
-//! Words that are valid code, and words that are none.
+//! Words that are valid code, and words that are not.
 use fixed_words::{List, NoMemory};
 use std::alloc::Global;
 use std::test::Fail;
 use unit_vm::{CodeFacts, check_code};
 
-/// The words of a step, and the facts of code with one state and this step; none where it is no valid code.
+/// The words of a step, and the facts of code with one state and this step; none where it is not valid code.
 type Case = (&'static [i64], Option<CodeFacts>);
 
 const fn facts(stack: u32, loops: u32, cost: u32) -> Option<CodeFacts> {
@@ -16,7 +16,7 @@ const fn facts(stack: u32, loops: u32, cost: u32) -> Option<CodeFacts> {
     })
 }
 
-/// The facts of code with one state, no output and this step; none where it is no valid code.
+/// Returns the facts of code with one state, no output and this step, or `None` where it is not valid code.
 fn facts_of(alloc: Global, step: &[i64]) -> Result<Option<CodeFacts>, NoMemory> {
     let mut words = List::from_slice(alloc, &[0, 1, 0, 0, 0, 0, 7])?;
     for word in step {
@@ -40,19 +40,19 @@ fn words_are_code_or_none(rt: HostRuntime) -> Result<(), Fail> {
             &[28, 3, 28, 4, 1, 0, 0, 1, 3, 0, 2, 6, 29, 4, 29, 6, 33, 0],
             facts(2, 2, 68),
         ),
-        // An instruction that there is not, and a slot that there is not.
+        // An instruction that doesn't exist, and a slot that doesn't exist.
         (&[99, 0, 33, 0], None),
         (&[1, 9, 2, 6, 33, 0], None),
         // No instruction, and no end.
         (&[], None),
         (&[0, 4, 30, 0], None),
-        // A jump out of the part, a place that no way reaches, and an operand that is not there.
+        // A jump out of the part, a place that no path reaches, and an operand that is missing.
         (&[26, 5, 33, 0], None),
         (&[26, 2, 0, 1, 33, 0], None),
         (&[3, 0, 33, 0], None),
-        // Two ways to a place, with another height each.
+        // Two paths to a place, with different heights.
         (&[0, 0, 27, 2, 0, 1, 33, 0], None),
-        // A jump into a loop, a loop that is not closed, and an end of no loop.
+        // A jump into a loop, a loop that is not closed, and an end without a loop.
         (&[0, 0, 27, 2, 28, 3, 0, 5, 2, 6, 29, 2, 33, 0], None),
         (&[28, 3, 33, 0], None),
         (&[29, 1, 33, 0], None),

@@ -1,11 +1,11 @@
-//! Texts that are put where something else stands.
+//! Texts that are appended to others.
 use std::test::Fail;
 use super_time::Point;
 use trace_csv::row_text;
 use unit_print::print_system;
 use unit_text::read_system;
 
-/// Behind a letter there is no space.
+/// After a letter there is no space.
 #[test]
 fn a_canonical_text_comes_behind_what_is_there(rt: HostRuntime) -> Result<(), Fail> {
     let read = read_system(rt.alloc(), b"cosim 1\nstop 3\n")?;

@@ -1,4 +1,4 @@
-//! Literals by themselves.
+//! Literals alone.
 use fixed_words::{Literal, read_literal};
 
 const fn number(word: i64, decimals: u8) -> Option<Literal> {

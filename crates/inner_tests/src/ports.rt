@@ -10,19 +10,19 @@ use test_plans::plan_of;
 use trace_core::Plan;
 use trace_units::Units;
 
-/// The output of `a` is fed to the input `u` of `b`, and nothing is connected to `v`.
+/// The output of `a` is connected to the input `u` of `b`, and `v` has no connection.
 const PAIR: &str =
     "cosim 1\nunit P\nstate n : Int64 = 10\noutput x : Int64 = n\nend\nunit Q\ninput u : Int64 = 3\ninput v : Int64 = 4\noutput y : Int64 needs u, v = u * 100 + v\nend\ninstance a : P\nend\ninstance b : Q\nend\nconnect a.x -> b.u\nstop 1\n";
 
-/// What an output gives, where all that it needs are known.
+/// The outcome of an output, where all that it needs are known.
 type Given = Option<Result<i64, Fault>>;
 
-/// What the first two outputs give, with the first one known or not.
+/// Returns the outcomes of the first two outputs, with the first one known or not.
 fn ask_both(plan: &Plan, units: &mut Units, is_first_known: bool) -> [Given; 2]
     requires { units.old.plan.system ≡ plan.now.system }
     ensures { units.new.plan.system ≡ units.old.plan.system }
 {
-    // Which words units have is known by the clauses of this call alone.
+    // Called for its clauses, which state which words units have.
     let _ = units.count();
     let order = plan.order();
     if order.routes().outputs.as_slice().len() < 2 {
@@ -34,7 +34,7 @@ fn ask_both(plan: &Plan, units: &mut Units, is_first_known: bool) -> [Given; 2]
     [first, ask(order, plan.checked(), units, 1, &known)]
 }
 
-/// Sets all inputs that nothing is connected to.
+/// Sets all inputs that have no connection.
 fn start(plan: &Plan, units: &mut Units)
     requires { units.old.plan.system ≡ plan.now.system }
     ensures { units.new.plan.system ≡ units.old.plan.system }
@@ -43,7 +43,7 @@ fn start(plan: &Plan, units: &mut Units)
     set_starts(plan.order(), plan.checked(), units);
 }
 
-/// Takes in the word 1 of the first output. It is a word of each type.
+/// Feeds the word 1 of the first output. It is a word of each type.
 #[tactic(auto, using(crate::proofs::WordLaws::one_fits))]
 fn feed_one(plan: &Plan, units: &mut Units)
     requires { units.old.plan.system ≡ plan.now.system }
@@ -57,8 +57,8 @@ fn feed_one(plan: &Plan, units: &mut Units)
     feed(order, plan.checked(), units, 0, 1);
 }
 
-/// What the first two outputs give before any is known, with the first one known, behind its word 1, and behind start words that are
-/// set anew.
+/// Returns the outcomes of the first two outputs four times: before any is known, with the first one known, after its word 1 was fed,
+/// and after start words were set again.
 fn asked_in_turn(plan: &Plan, units: &mut Units) -> [[Given; 2]; 4]
     requires { units.old.plan.system ≡ plan.now.system }
 {
@@ -77,7 +77,7 @@ fn asked_of(alloc: Global, text: &str) -> Result<[[Given; 2]; 4], Fail> {
     Ok(asked_in_turn(&plan, &mut units))
 }
 
-/// The second output needs the first, which gives what its state says, whatever word was fed.
+/// The second output needs the first, whose word is that of its state, whatever word was fed.
 #[test]
 fn outputs_are_asked_for_the_words_that_were_fed(rt: HostRuntime) -> Result<(), Fail> {
     let first = Some(Ok(10));

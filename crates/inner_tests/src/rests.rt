@@ -1,4 +1,4 @@
-//! Runs that are opened at any position, and the lines that they put from there.
+//! Runs that are opened at any position, and the lines that they write from there.
 ghost use Rattle.trace_core.specs.Runs.{IsOpened, Stands};
 
 use cosim_io::MemSink;
@@ -10,14 +10,14 @@ use test_plans::plan_of;
 use trace_core::{OpenFault, Plan, Run};
 use unit_tree::Point;
 
-/// No rest here has more bytes.
+/// Every rest here is shorter, in bytes.
 const ROOM: usize = 4096;
 
 /// Two units whose states have three types.
 const TWO_UNITS: &str =
     "cosim 1\nunit P\nstate n : Int8 = 0\nstate up : Bool = true\noutput y : Int64 = if up then n else 0 - n\nstep\nn := n + 1\nup := not up\nend\nend\nunit Q\nstate m : Int64 = 5\noutput z : Int64 = m\nstep\nm := m + 2\nend\nend\ninstance a : P\nend\ninstance b : Q\nend\nstop 3\nlongest 1\nrows 6\n";
 
-/// A position, told by its row, its point and the words of its states, and the lines from there; none where it doesn't fit.
+/// A position, given by its row, its point and the words of its states, and the lines from there; none where it doesn't fit.
 #[derive(Clone, Copy)]
 struct Case {
     row: u64,
@@ -40,7 +40,7 @@ const fn at(
     }
 }
 
-/// The lines of a run from where it was opened.
+/// Returns the lines of a run from where it was opened.
 fn lines_of(alloc: Global, plan: &Plan, run: Run) -> Result<MemSink, Fail>
     requires opened { IsOpened plan.now run.opened run }
     requires stands { Stands run }
@@ -50,7 +50,7 @@ fn lines_of(alloc: Global, plan: &Plan, run: Run) -> Result<MemSink, Fail>
     Ok(sink)
 }
 
-/// The lines from a position; none where it doesn't fit.
+/// Returns the lines from a position, or `None` where it doesn't fit.
 fn lines_from(alloc: Global, plan: &Arc<Plan>, case: &Case) -> Result<Option<MemSink>, Fail> {
     let shared = Arc::clone(plan)?;
     let run = match Run::open_at(alloc, shared, case.row, case.point, case.states) {
@@ -60,8 +60,8 @@ fn lines_from(alloc: Global, plan: &Arc<Plan>, case: &Case) -> Result<Option<Mem
     Ok(Some(lines_of(alloc, plan, run)?))
 }
 
-/// At the first position all lines come but the header. A position need not be on the trace: 7 and 40 are not. At the stop, and at
-/// the last of six rows, there is one line.
+/// At the first position there are all lines except for the header. A position need not be on the trace: 7 and 40 are not. At the stop,
+/// and at the last of six rows, there is one line.
 #[test]
 fn rests_are_put_from_positions_that_fit(rt: HostRuntime) -> Result<(), Fail> {
     let plan = plan_of(rt.alloc(), TWO_UNITS)?;
@@ -80,17 +80,17 @@ fn rests_are_put_from_positions_that_fit(rt: HostRuntime) -> Result<(), Fail> {
         ),
         at(3, (3, 100), &[-128, 1, -1], Some("3,100,-128,-1\n")),
         at(5, (1, 0), &[127, 1, 0], Some("1,0,127,0\n")),
-        // Behind the stop, above the budget of steps of length zero, and behind the last row.
+        // After the stop, above the zero budget, and after the last row.
         at(2, (4, 0), &[2, 1, 9], None),
         at(2, (2, 101), &[2, 1, 9], None),
         at(6, (2, 0), &[2, 1, 9], None),
         // A word too few, and one too many.
         at(2, (2, 0), &[2, 1], None),
         at(2, (2, 0), &[2, 1, 9, 0], None),
-        // No words of their types.
+        // Words that are not of their types.
         at(2, (2, 0), &[128, 1, 9], None),
         at(2, (2, 0), &[2, 2, 9], None),
-        // In the order of the other instances they would be.
+        // They would be of their types if the instances were in the other order.
         at(2, (2, 0), &[300, 1, 0], None),
     ];
     for one in cases {

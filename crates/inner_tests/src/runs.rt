@@ -10,7 +10,7 @@ use trace_core::Plan;
 use trace_plan::PlanFault;
 use unit_tree::{Ending, Point};
 
-/// No trace here has more bytes.
+/// Every trace here is shorter, in bytes.
 const ROOM: usize = 4096;
 
 /// Inputs of two types.
@@ -21,11 +21,11 @@ const TWO_INPUTS: &str =
 const LOOP: &str =
     "cosim 1\nunit A\nstate n : Int64 = 0\noutput x : Int64 = n\nend\nunit B\ninput u : Int64 = 0\noutput w : Int64 = 1\noutput y : Int64 needs u = u\nend\ninstance a : A\nend\ninstance b : B\nend\ninstance c : B\nend\ninstance d : B\nend\nconnect b.y -> c.u\nconnect c.y -> b.u\nconnect c.y -> d.u\nstop 1\n";
 
-/// A truth value, an event at the second row alone, and an output that is no column.
+/// A truth value, an event only at the second row, and an output that is not a column.
 const TRUTHS: &str =
     "cosim 2\nunit A\nstate n : Int64 = 0\noutput even : Bool = n mod 2 == 0\nevent output e : Int64 = if n == 1 then -5 else absent\noutput y : Int64 = n + 100\nstep\nn := n + h\nend\nend\ninstance a : A\nend\nstop 2\nlongest 1\nsample a.e\nsample a.even\n";
 
-/// Why a text has no plan, if it has none.
+/// Returns why a text has no plan, if it has none.
 fn fault_of(alloc: Global, text: &str) -> Result<Option<PlanFault>, Fail> {
     match perhaps_plan(alloc, text)? {
         Ok(_) => Ok(None),
@@ -33,7 +33,7 @@ fn fault_of(alloc: Global, text: &str) -> Result<Option<PlanFault>, Fail> {
     }
 }
 
-/// Whether the inputs of the first instance have these least and greatest words.
+/// Returns whether the inputs of the first instance have these least and greatest words.
 fn are_first_ends(plan: &Plan, low: &[i64], high: &[i64]) -> bool {
     if plan.instances() == 0 {
         return false;
@@ -42,7 +42,7 @@ fn are_first_ends(plan: &Plan, low: &[i64], high: &[i64]) -> bool {
     ends.0 == low && ends.1 == high
 }
 
-/// The same of the plan of a text.
+/// The same for the plan of a text.
 fn have_ends(alloc: Global, text: &str, low: &[i64], high: &[i64]) -> Result<bool, Fail> {
     let plan = plan_of(alloc, text)?;
     Ok(are_first_ends(&plan, low, high))
@@ -64,7 +64,7 @@ fn a_ring_of_outputs_has_no_plan(rt: HostRuntime) -> Result<(), Fail> {
     Ok(())
 }
 
-/// What a run answered, and the sink that it put on.
+/// The result of a run, and the sink to which it wrote.
 #[derive(Drop)]
 struct WholeRun {
     answer: Result<Report, CrewFault>,
@@ -77,7 +77,7 @@ fn run_whole(alloc: Global, plan: &Arc<Plan>) -> Result<WholeRun, Fail> {
     Ok(WholeRun { answer, sink })
 }
 
-/// The report of a run that came to its stop, with so many rows, the sum of their words, and so many steps.
+/// Returns the report of a run that came to its stop, with so many rows, the sum of their words, and so many steps.
 fn report(stop: u64, rows: u64, sum: i128, own: u64) -> Report {
     Report {
         outcome: Ending::Completed,
@@ -93,7 +93,7 @@ fn report(stop: u64, rows: u64, sum: i128, own: u64) -> Report {
     }
 }
 
-/// A step counts for each instance that is not held, in the trial and again where it is made anew.
+/// Each instance that is not held counts a step, in the trial and again in a redo.
 #[test]
 fn runs_report_their_traces(rt: HostRuntime) -> Result<(), Fail> {
     for (text, expected) in [

@@ -1,4 +1,4 @@
-//! Positions that are saved, and read and opened again. The texts were worked out by hand.
+//! Positions that are saved, read and opened again. The texts were worked out by hand.
 use save_point::{open_saved, read_saved, save_text};
 use std::alloc::Global;
 use std::test::Fail;
@@ -13,11 +13,11 @@ const COUNTER: &str =
 const SAVED: &str =
     "saved 1\nrow 2\nat 2 0\nstate a 2\ncosim 1\nunit Counter\nstate n:Int64=0\noutput y:Int64=n\nstep\nn:=n+1\nend\nend\ninstance a:Counter\nend\nstop 3\nlongest 1\n";
 
-/// Two units of which one has no state, in version 2, with an event port.
+/// Two units, one of which has no state, in version 2, with an event port.
 const PULSE: &str =
     "cosim 2\nunit Pulse\nstate n:Int8=-1\nstate up:Bool=true\nevent output e:Int64=if up then n else absent\nstep\nn:=n-1\nup:=not up\nend\nend\nunit Still\noutput y:Int64=7\nend\ninstance p:Pulse\nend\ninstance q:Still\nend\nstop 4\nlongest 1\n";
 
-/// What is put of a position of a text's trace, behind a letter.
+/// Returns the saved text of a position of a text's trace, after a letter.
 fn saved(alloc: Global, text: &str, row: u64) -> Result<Vec<u8>, Fail> {
     let plan = plan_of(alloc, text)?;
     let mut out = b"k".to_vec(alloc)?;
@@ -34,7 +34,7 @@ fn positions_are_put_behind_what_is_there(rt: HostRuntime) -> Result<(), Fail> {
     Ok(())
 }
 
-/// The source is put as it is written, with its event port, and a state that has no words.
+/// The text is saved as it is written, with its event port, and with a state that has no words.
 #[test]
 fn the_source_is_put_behind_its_states(rt: HostRuntime) -> Result<(), Fail> {
     let pulse = saved(rt.alloc(), PULSE, 1)?;

@@ -1,4 +1,4 @@
-//! Systems that are copied, and judged by whether they can be printed.
+//! Systems that are copied, and whether they can be printed.
 use fixed_words::{List, NoMemory, Ty};
 use std::alloc::Global;
 use std::test::Fail;
@@ -6,7 +6,7 @@ use unit_plain::copy_system;
 use unit_print::is_printable;
 use unit_tree::{EventIn, PortName, System, Unit};
 
-/// A unit of the name `U` with an event input `e`.
+/// Returns a unit of the name `U` with an event input `e`.
 fn listener(alloc: Global) -> Result<Unit, NoMemory> {
     let mut events_in = List::new(alloc);
     events_in.push(EventIn {
@@ -28,7 +28,7 @@ fn listener(alloc: Global) -> Result<Unit, NoMemory> {
     })
 }
 
-/// A system with these units that samples the port `y` of an instance of this name.
+/// Returns a system with these units that samples the port `y` of an instance of this name.
 fn system(
     alloc: Global,
     version: u8,
@@ -53,7 +53,7 @@ fn system(
     })
 }
 
-/// Whether a system of this version can be printed that has no unit.
+/// Returns whether a system of this version that has no unit can be printed.
 fn is_bare_one_printable(alloc: Global, version: u8, instance: &str) -> Result<bool, NoMemory> {
     is_printable(alloc, &system(alloc, version, List::new(alloc), instance)?)
 }
@@ -67,7 +67,7 @@ fn systems_can_be_printed_or_not(rt: HostRuntime) -> Result<(), Fail> {
     Ok(())
 }
 
-/// How many event inputs the units have.
+/// Returns how many event inputs the units have.
 fn count_of_events(system: &System) -> usize {
     let mut count: usize = 0;
     for unit in system.units.as_slice() {

@@ -9,7 +9,7 @@ use trace_verify::{Verdict, part, verify};
 const COUNTER: &str =
     "cosim 1\nunit Counter\n  state n : Int64 = 0\n  output y : Int64 = n\n  step\n    n := n + 1\n  end\nend\ninstance a : Counter\nend\nstop 2\nlongest 1\n";
 
-/// The verdict on a table that should be the trace of the counter.
+/// Returns the verdict on a table that should be the trace of the counter.
 fn judged(alloc: Global, table: &[u8]) -> Result<Verdict, Fail> {
     Ok(verify(alloc, plan_of(alloc, COUNTER)?, table)?)
 }
@@ -21,7 +21,7 @@ fn the_trace_is_told_from_others(rt: HostRuntime) -> Result<(), Fail> {
         judged(alloc, b"time,index,a.y\n0,0,0\n1,0,1\n2,0,2\n")?,
         Verdict::Yes
     );
-    // Line ends, quotes and a last line without an end are no difference.
+    // Line ends, quotes and a last line without an end make no difference.
     assert_eq!(rt;
         judged(alloc, b"time,index,a.y\r\n0,0,0\r\n\"1\",0,1\r\n2,0,2")?,
         Verdict::Yes
@@ -107,10 +107,10 @@ fn another_form_is_told_by_its_record(rt: HostRuntime) -> Result<(), Fail> {
     Ok(())
 }
 
-/// An input with what stands before its line `trace` and behind it, where it has one.
+/// An input, and the bytes before its line `trace` and after it, where it has one.
 type Cut = (&'static [u8], Option<(&'static [u8], &'static [u8])>);
 
-/// Blanks, a comment and a CR may stand on the line, which may lack its end and is the first of its kind.
+/// The line may have blanks, a comment and a CR, and may lack its end. The first such line counts.
 const CUTS: &[Cut] = &[
     (b"a\nb\ntrace\nx,y\n", Some((b"a\nb\n", b"x,y\n"))),
     (b"a\r\n\t trace # c\r\nx", Some((b"a\r\n", b"x"))),

@@ -1,23 +1,22 @@
-//! What a run lends of an instance, and the steps that it wants.
+//! What a run lends of an instance, and the steps that it requires.
 use std::alloc::Global;
 use std::test::Fail;
 use test_plans::{plan_of, settle};
 use trace_core::{Phase, Run};
 
-/// Two components in a ring, whose outputs are in none. The state of `a` is what `b` put out at the row before.
+/// Two components in a ring, whose outputs are not in a ring. The state of `a` is the output of `b` at the row before.
 const RING: &str =
     "cosim 1\nunit P\nstate n : Int64 = 10\ninput v : Int64 = 0\noutput x : Int64 = n\nstep\nn := v\nend\nend\nunit Q\ninput u : Int64 = 0\noutput y : Int64 needs u = u + 1\nend\ninstance b : Q\nend\ninstance a : P\nend\nconnect a.x -> b.u\nconnect b.y -> a.v\nstop 2\nlongest 1\n";
 
-/// The first instance counts milliseconds and accepts 4, the second one counts hundredths of a second: it is stepped in the
-/// trial, and held where the step is made anew without a tick of its own.
+/// The first instance counts milliseconds and accepts 4, the second one counts hundredths of a second. The second makes a step in the
+/// trial, and is held in the redo, in which none of its ticks ends.
 pub(crate) const HELD_ANEW: &str =
     "cosim 1\nunit A\nresolution 3\nstate n : Int64 = 0\noutput y : Int64 = n\nstep\nn := n + h\naccept min(h, 4)\nend\nend\nunit B\nresolution 2\nstate n : Int64 = 0\noutput y : Int64 = n\nstep\nn := n + h\nend\nend\ninstance a : A\nend\ninstance b : B\nend\nstop 0.020\n";
 
-/// No instance here has more than one word of state, or one input.
+/// Every instance here has at most one state and one input.
 type Word = Option<i64>;
 
-/// What a step that is wanted is made from: its row, the state, the input, local time and local step; and the input at the row
-/// before.
+/// A required step: its row, the state, the input, local time and local step; and the input at the row before.
 #[derive(Clone, Copy, Debug, PartialEq, Eq)]
 struct Wanted {
     row: u64,
@@ -28,7 +27,8 @@ struct Wanted {
     before: Word,
 }
 
-/// What a run wants of an instance; none where it wants nothing, or lends another state or other inputs than it wants.
+/// Returns the required step of an instance, or `None` where there is none, or where the run lends another state or other inputs than
+/// those of the step.
 fn want_of(run: &Run, instance: u32) -> Option<Wanted> {
     if let Phase::Ended(_) = run.phase() {
         return None;
@@ -48,7 +48,7 @@ fn want_of(run: &Run, instance: u32) -> Option<Wanted> {
     })
 }
 
-/// What a run wants of its first two instances, at the opening and behind each of two phases.
+/// Returns the required steps of the first two instances, at the opening and after each of two phases.
 fn all_wanted(run: &mut Run, last_first: bool) -> Result<[[Option<Wanted>; 2]; 3], Fail> {
     let mut all = [[None; 2]; 3];
     for phase in 0..3 {
@@ -60,7 +60,7 @@ fn all_wanted(run: &mut Run, last_first: bool) -> Result<[[Option<Wanted>; 2]; 3
     Ok(all)
 }
 
-/// The same of the run of a text, whose steps are made from the first instance on, or from the last one.
+/// The same for the run of a text, whose steps are made beginning with the first instance, or with the last one.
 fn wanted_in(
     alloc: Global,
     text: &str,
@@ -70,7 +70,7 @@ fn wanted_in(
     all_wanted(&mut run, last_first)
 }
 
-/// A step over a time by its local length, of an instance with one input, from the one and the other row.
+/// Returns a step from a local time by a local length, of an instance with one input, with its words at this row and the one before.
 fn fed(row: u64, state: Word, input: i64, (time, step): (u64, u64), before: i64) -> Option<Wanted> {
     Some(Wanted {
         row,
@@ -82,7 +82,7 @@ fn fed(row: u64, state: Word, input: i64, (time, step): (u64, u64), before: i64)
     })
 }
 
-/// The same of an instance without inputs.
+/// The same for an instance without inputs.
 fn alone(row: u64, state: i64, (time, step): (u64, u64)) -> Option<Wanted> {
     Some(Wanted {
         row,
@@ -94,8 +94,8 @@ fn alone(row: u64, state: i64, (time, step): (u64, u64)) -> Option<Wanted> {
     })
 }
 
-/// At the first row the inputs before are those there. At the last row of the ring the run has ended. The step that is made anew
-/// is wanted from the same state, and of the first instance alone.
+/// At the first row the inputs before are those there. At the last row of the ring the run has ended. The redo is required from the same
+/// state, and only of the first instance.
 #[test]
 fn steps_are_wanted_by_their_keys(rt: HostRuntime) -> Result<(), Fail> {
     let ring = [

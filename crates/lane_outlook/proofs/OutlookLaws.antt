@@ -1,4 +1,4 @@
--- What is known of an instance where a run stands.
+-- What is known of an instance at the run's stand.
 use Rattle.std.proofs.Common.{◌≡◌, ◌∙◌, ℕ, ◌≤◌, ◌≤ℤ◌, false, List, [], ◌∷◌, map, length, sym, ap, subst, arith}
 use Rattle.std.proofs.lemmas.List.{length-map}
 use Rattle.std.specs.Prelude.{slice_get}

@@ -1,4 +1,4 @@
-//! What is known of an instance where a run stands, and how its lane is published with what is guessed from that.
+//! What is known of an instance at the run's stand, and how its lane is published with the guesses from that.
 ghost use Rattle.std.specs.Prelude.{◌≡◌, ◌<◌, ◌≤◌, length, true, false, IfErr, IfOk, OnErr, OnOk};
 ghost use Rattle.guess_board.specs.Events.{is_full, published};
 ghost use Rattle.guess_board.specs.Guesses.{IsOutlook, guessed_line, seen_of};
@@ -10,7 +10,7 @@ use guess_board::{Lane, LaneFault, Outlook, Policy, guess_line};
 use std::alloc::Global;
 use trace_core::{Phase, Plan, Run};
 
-/// The length of the step of a phase, in ticks.
+/// Returns the length of the step of a phase, in ticks.
 fn step_length(phase: Phase) -> u64
     ensures { result ≡ step_length phase }
 {
@@ -20,8 +20,8 @@ fn step_length(phase: Phase) -> u64
     }
 }
 
-/// What is known of an instance where a run of the plan stands: the step of its phase, and the words of its inputs there and at the
-/// row before. Lines are guessed from it.
+/// Returns what is known of an instance at the stand of a run of the plan: the step of the phase, and the words of the inputs
+/// there and at the row before. Lines are guessed from it.
 pub fn outlook<'a>(plan: &'a Plan, run: &'a Run, instance: u32) -> Outlook<'a>
     requires own { run.now.plan ≡ plan.now }
     requires there { instance < length run.now.plan.run.members }
@@ -29,7 +29,7 @@ pub fn outlook<'a>(plan: &'a Plan, run: &'a Run, instance: u32) -> Outlook<'a>
     ensures seen { IsSeenAt run.now instance (seen_of result) }
     ensures outlook { IsOutlook (seen_of result) }
 {
-    // How large the numbers of a run are is known by the clauses of this call alone.
+    // Called for its clauses, which state how large the numbers of a run are.
     let _ = plan.instances();
     let (low, high) = plan.input_ends(instance);
     Outlook {
@@ -45,12 +45,12 @@ pub fn outlook<'a>(plan: &'a Plan, run: &'a Run, instance: u32) -> Outlook<'a>
     }
 }
 
-/// Publishes a lane with a state, and with the line of at most so many rows that is guessed from what is seen. It tells how many
+/// Publishes a lane with a state, and with the line that is guessed from an outlook for at most `window` rows. Returns how many
 /// answers the lane kept.
 ///
 /// # Errors
 ///
-/// [`LaneFault::Full`] where the lane is full, and only there. The lane is as before.
+/// [`LaneFault::Full`] exactly where the lane is full. The lane is as before.
 pub fn publish_from(
     alloc: Global,
     policy: Policy,

@@ -7,7 +7,7 @@ use trace_core::Plan;
 /// How many cells the lines of a whole run may have together.
 const MOST_CELLS: u64 = 4_000_000;
 
-/// The window that a run uses of the one that is asked for.
+/// Returns the window that a run uses where `window` is asked for: it may be smaller.
 pub fn cut_window(plan: &Plan, window: u32) -> u32
     ensures { result ≡ cut_window plan.now.run window }
 {

@@ -1,4 +1,4 @@
-//! Answers that units of their own make.
+//! Answers, each of which is made by a unit of its own.
 use std::alloc::Global;
 use std::sync::Arc;
 use std::test::Fail;
@@ -6,10 +6,10 @@ use trace_core::Run;
 use unit_answers::{Proven, prove};
 use unit_exec::{Unit, Want};
 
-/// No time and no step here is later or longer.
+/// The greatest time and step here.
 const LATEST: u64 = 1000;
 
-/// The step that is wanted of an instance.
+/// Returns the required step of an instance.
 pub(crate) fn want_of(run: &Run, instance: u32) -> Result<Want<'_>, Fail> {
     match run.wants(instance) {
         Some(want) => Ok(want),
@@ -17,7 +17,7 @@ pub(crate) fn want_of(run: &Run, instance: u32) -> Result<Want<'_>, Fail> {
     }
 }
 
-/// The answer to a step, made by a unit of its code that made another step before.
+/// Returns the answer to a step, made by a unit of its code that made another step before.
 pub(crate) fn answer_to(alloc: Global, want: Want<'_>) -> Result<Proven, Fail> {
     let fits = want.state.len() == want.image.states() as usize
         && want.inputs.len() == want.image.inputs() as usize

@@ -1,4 +1,5 @@
-//! Fronts of lanes that are written out: whether a lane takes them is asked here, as its contract asks it.
+//! Publishing lanes with a row, a state and a line that are given. It is tested here whether they fit, as the contract of a lane
+//! requires.
 ghost use Rattle.std.specs.Prelude.{◌≡◌, ◌≤◌, ◌+◌, ◌^◌, length, true};
 ghost use Rattle.std.specs.List.{AllByRecursion};
 ghost use Rattle.guess_board.specs.Cells.{FitsCell, FitsLine, RisesFrom};
@@ -12,7 +13,7 @@ use unit_exec::Image;
 /// Times and steps here are at most this.
 const LATEST: u64 = 1000;
 
-/// Whether the rows of cells rise from a row on.
+/// Returns whether the rows of cells rise from a row on.
 fn rises(row: u64, line: &[Cell]) -> bool
     ensures { result ≡ true → RisesFrom row line.now }
 {
@@ -22,7 +23,7 @@ fn rises(row: u64, line: &[Cell]) -> bool
     }
 }
 
-/// Whether each cell has so many inputs, and ends in time.
+/// Returns whether each cell has so many inputs, and ends within the range of times.
 fn each_fits(inputs: u32, line: &[Cell]) -> bool
     ensures { result ≡ true → AllByRecursion (FitsCell inputs) line.now }
 {
@@ -37,7 +38,7 @@ fn each_fits(inputs: u32, line: &[Cell]) -> bool
     }
 }
 
-/// Whether a front fits an image.
+/// Returns whether a row, a state and a line fit an image.
 fn fits(image: &Image, row: u64, state: &[i64], line: &[Cell]) -> bool
     ensures { result ≡ true → FitsLine image.now row state.now line.now }
 {
@@ -47,7 +48,7 @@ fn fits(image: &Image, row: u64, state: &[i64], line: &[Cell]) -> bool
         && each_fits(image.inputs(), line)
 }
 
-/// Publishes a lane with a front that fits it.
+/// Publishes a lane with a row, a state and a line that fit it.
 pub(crate) fn publish(
     alloc: Global,
     lane: &mut Lane,
@@ -61,7 +62,7 @@ pub(crate) fn publish(
     Ok(lane.publish(alloc, row, state, line)?)
 }
 
-/// Cells of rows, each with its own number as the time, a step of 1 and one input.
+/// Returns cells of rows. The time of each is the number of its row; it has a step of 1 and one input.
 pub(crate) fn line(alloc: Global, rows: &[u32], input: i64) -> Result<Vec<Cell>, Fail> {
     let mut cells = Vec::new(alloc);
     for row in rows {

@@ -1,4 +1,4 @@
-//! Lines that are guessed.
+//! Guessed lines.
 ghost use Rattle.std.specs.Prelude.{◌≤◌};
 
 use crate::script::{numbers_of, words_of};
@@ -9,7 +9,7 @@ use std::test::Fail;
 /// The only component here has one input, from 0 to 9, which was 4 and is 7. The run stops at 29.
 const STOP: u64 = 29;
 
-/// The policy of a word.
+/// Returns the policy of a word.
 pub(crate) fn policy_of(word: &str) -> Policy {
     if word == "linear" {
         Policy::Linear
@@ -18,7 +18,7 @@ pub(crate) fn policy_of(word: &str) -> Policy {
     }
 }
 
-/// What is guessed from row 5 on at a time, by steps, of a component with a factor.
+/// Returns the line that is guessed from row 5 on at a time, by steps, for a component with a factor.
 fn guessed(
     alloc: Global,
     policy: Policy,
@@ -46,7 +46,7 @@ fn guessed(
     Ok(guess_line(alloc, policy, window, seen)?)
 }
 
-/// What is guessed by a policy and numbers: the window, the time, the step and the factor.
+/// Returns the line that is guessed by a policy and numbers: the window, the time, the step and the factor.
 fn guessed_by(alloc: Global, policy: Policy, numbers: &[u32]) -> Result<Vec<Cell>, Fail> {
     match numbers {
         [window, t, step, factor] if *window <= 16 && *t <= 29 && *step <= 8 && 1 <= *factor => {
@@ -63,7 +63,7 @@ fn guessed_by(alloc: Global, policy: Policy, numbers: &[u32]) -> Result<Vec<Cell
     }
 }
 
-/// Guesses a line, and prints its cells: of each the row, the time, the step and the inputs.
+/// Guesses a line, and prints its cells: for each the row, the time, the step and the inputs.
 fn guess(rt: &HostRuntime, call: &str) -> Result<(), Fail> {
     let words = words_of(rt.alloc(), call)?;
     let [policy, given @ ..] = words.as_slice() else {

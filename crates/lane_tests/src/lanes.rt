@@ -1,4 +1,4 @@
-//! Lanes and their tickets: what is kept for another front, cut, appended, found and refused.
+//! Lanes and their tickets: which answers are kept when a lane is published again, and what is cut, appended, found and refused.
 use crate::answering::{answer_to, want_of};
 use crate::fronts::{line, publish};
 use crate::script::{numbers_of, words_of};
@@ -10,7 +10,7 @@ use trace_core::{Plan, Run};
 use unit_answers::{Answer, Proven};
 use unit_exec::{Image, Want};
 
-/// Two lanes of the first component of a plan, as those of the instances 0 and 1, and the tickets that they gave.
+/// Two lanes of the first component of a plan, as those of the instances 0 and 1, and the tickets that they made.
 #[derive(Drop)]
 struct Desk {
     lanes: [Lane; 2],
@@ -18,12 +18,12 @@ struct Desk {
 }
 
 impl Desk {
-    /// The lane of a number, 0 or 1.
+    /// Returns the lane with a number, 0 or 1.
     fn lane(&mut self, number: u32) -> &mut Lane {
         &mut self.lanes[number as usize % 2]
     }
 
-    /// The ticket that is in a place among those that were taken, which loses it.
+    /// Removes and returns the ticket at a place among those that were taken.
     fn ticket(&mut self, place: u32) -> Result<Ticket, Fail> {
         let place = place as usize;
         if place >= self.tickets.len() {
@@ -32,14 +32,14 @@ impl Desk {
         Ok(self.tickets.remove(place))
     }
 
-    /// Keeps a ticket behind the others.
+    /// Adds a ticket after the others.
     fn keep(&mut self, ticket: Ticket) -> Result<(), Fail> {
         self.tickets.push(ticket).map_err(AllocError::from)?;
         Ok(())
     }
 }
 
-/// The state that an answer moved to, or behind a fault the one from which it was made.
+/// Returns the state after an answer; after a fault, the one from which it was made.
 fn state_after(alloc: Global, one: &Proven) -> Result<Vec<i64>, Fail> {
     match one.answer() {
         Answer::Moved { state, .. } => Ok(Vec::from_slice(alloc, state.as_slice())?),
@@ -47,7 +47,7 @@ fn state_after(alloc: Global, one: &Proven) -> Result<Vec<i64>, Fail> {
     }
 }
 
-/// The answers to the cells of a ticket, each from the state after the one before.
+/// Returns the answers to the cells of a ticket, each from the state after the one before.
 fn answers(alloc: Global, image: &Arc<Image>, ticket: &Ticket) -> Result<Vec<Proven>, Fail> {
     let mut answers = Vec::new(alloc);
     let mut state = Vec::from_slice(alloc, ticket.start())?;
@@ -67,7 +67,7 @@ fn answers(alloc: Global, image: &Arc<Image>, ticket: &Ticket) -> Result<Vec<Pro
     Ok(answers)
 }
 
-/// Takes a ticket, and prints the rows that it asks for.
+/// Takes a ticket, and prints the rows of its cells.
 fn take(rt: &HostRuntime, desk: &mut Desk, number: u32) -> Result<(), Fail> {
     let Some(ticket) = desk.lane(number).take(rt.alloc())? else {
         println!(rt; " no ticket")?;
@@ -113,7 +113,7 @@ fn give_back(rt: &HostRuntime, desk: &mut Desk, number: u32, place: u32) -> Resu
     }
 }
 
-/// Whether a lane has the answer to a step of 1 at its front.
+/// Returns whether the first answer of a lane is that of a step of 1.
 fn finds(lane: &Lane, row: u32, state: u32, input: u32, time: u32) -> bool {
     let want = Want {
         row: u64::from(row),
@@ -126,7 +126,7 @@ fn finds(lane: &Lane, row: u32, state: u32, input: u32, time: u32) -> bool {
     lane.find(want).is_some()
 }
 
-/// Makes a call of the lane of a number.
+/// Makes a call of the lane with a number.
 fn ask(rt: &HostRuntime, desk: &mut Desk, name: &str, numbers: &[u32]) -> Result<(), Fail> {
     match (name, numbers) {
         ("publish", [number, row, state, input, rows @ ..]) => {
@@ -167,7 +167,7 @@ fn make_each(rt: &HostRuntime, desk: &mut Desk, calls: &str) -> Result<(), Fail>
     Ok(())
 }
 
-/// The image of the first component of a plan.
+/// Returns the image of the first component of a plan.
 fn image_of(alloc: Global, plan: Arc<Plan>) -> Result<Arc<Image>, Fail> {
     let run = Run::open(alloc, plan)?;
     Ok(Arc::clone(want_of(&run, 0)?.image)?)

@@ -1,12 +1,12 @@
-//! A program that tries, by a script, what no command reaches: worlds, lanes and their tickets, answers that a run takes or leaves,
-//! and lines that are guessed.
+//! A program that tries, by a script, what no command reaches: worlds, lanes and their tickets, answers that a run accepts or refuses,
+//! and guessed lines.
 //!
-//! The script is the standard input. A blank line separates its sections. The first line of a section says what it is: a comment
-//! (`#`), the text of a system (`text NAME`), or what its other lines call (`world`, `lanes`, `run`, `guesses`). The program prints
-//! that line, and each call with its answer.
+//! The script is the standard input. A blank line separates its sections. The first line of a section is a comment (`#`), or the name
+//! of a text (`text NAME`) whose lines follow, or the kind of the calls that follow (`world`, `lanes`, `run`, `guesses`). The program
+//! prints that line, and each call with its answer.
 //!
-//! The file `stdout` has the answers as they were worked out by hand. So it also shows that each call succeeds that may find no
-//! memory. Nothing depends on this crate.
+//! The file `stdout` has the answers as they were worked out by hand. So it also shows that each call succeeds that may fail for want of
+//! memory. No crate depends on this one.
 #![tactic(auto)]
 
 mod answering;

@@ -1,4 +1,4 @@
-//! Answers that a run takes or leaves.
+//! Answers that a run accepts or refuses.
 use crate::answering::{answer_to, want_of};
 use crate::script::{numbers_of, words_of};
 use std::alloc::{AllocError, Global};
@@ -9,7 +9,7 @@ use trace_core::{Plan, Run};
 use unit_answers::{Proven, same_key};
 use unit_exec::Want;
 
-/// In what a step differs from the one that is wanted: a part of it, by its number or its words.
+/// How a step differs from the required one: in a part of it, by its number or its words.
 #[derive(Drop)]
 struct Change<'a> {
     part: &'a str,
@@ -17,7 +17,7 @@ struct Change<'a> {
     words: Vec<i64>,
 }
 
-/// The change that words say. Without words it is none.
+/// Returns the change that words describe. Without words there is no change.
 fn change_of<'a>(alloc: Global, given: &[&'a str]) -> Result<Change<'a>, Fail> {
     let mut change = Change {
         part: "",
@@ -35,7 +35,7 @@ fn change_of<'a>(alloc: Global, given: &[&'a str]) -> Result<Change<'a>, Fail> {
     Ok(change)
 }
 
-/// The step that is wanted of an instance, but for a change.
+/// Returns the required step of an instance, after a change.
 fn changed<'a>(run: &'a Run, instance: u32, change: &'a Change<'_>) -> Result<Want<'a>, Fail> {
     let want = want_of(run, instance)?;
     let number = u64::from(change.number);
@@ -69,7 +69,7 @@ fn changed<'a>(run: &'a Run, instance: u32, change: &'a Change<'_>) -> Result<Wa
     }
 }
 
-/// The answer that was made last.
+/// Returns the answer that was made last.
 fn last_of(answers: &[Proven]) -> Result<&Proven, Fail> {
     match answers.last() {
         Some(answer) => Ok(answer),
@@ -98,7 +98,7 @@ fn answer(
     Ok(())
 }
 
-/// Whether the last answer is that of a step.
+/// Returns whether the last answer is that of a step.
 fn is_same(
     rt: &HostRuntime,
     run: &Run,
@@ -111,7 +111,7 @@ fn is_same(
     Ok(same_key(last_of(answers)?, want))
 }
 
-/// Makes a call of a run, to which its answers belong.
+/// Makes a call of a run, with its answers.
 fn make_call(
     rt: &HostRuntime,
     run: &mut Run,

@@ -5,7 +5,7 @@ use std::test::Fail;
 use test_plans::plan_of;
 use trace_core::Plan;
 
-/// The words of a line, which have one space between them.
+/// Returns the words of a line, which have one space between them.
 pub(crate) fn words_of<'a>(alloc: Global, line: &'a str) -> Result<Vec<&'a str>, Fail> {
     let mut words = Vec::new(alloc);
     for word in line.split(' ') {
@@ -14,7 +14,7 @@ pub(crate) fn words_of<'a>(alloc: Global, line: &'a str) -> Result<Vec<&'a str>,
     Ok(words)
 }
 
-/// The numbers that words are.
+/// Returns the numbers that words are.
 pub(crate) fn numbers_of(alloc: Global, words: &[&str]) -> Result<Vec<u32>, Fail> {
     let mut numbers = Vec::new(alloc);
     for word in words {
@@ -23,7 +23,7 @@ pub(crate) fn numbers_of(alloc: Global, words: &[&str]) -> Result<Vec<u32>, Fail
     Ok(numbers)
 }
 
-/// The text of a name: a section whose first line is `text NAME` has it.
+/// Returns the text of a name, from the section whose first line is `text NAME`, if there is one.
 fn text_in<'a>(script: &'a str, name: &str) -> Option<&'a str> {
     for section in script.split("\n\n") {
         if let Some((first, text)) = section.split_once('\n') {
@@ -35,7 +35,7 @@ fn text_in<'a>(script: &'a str, name: &str) -> Option<&'a str> {
     None
 }
 
-/// The plan of the text of a name.
+/// Returns the plan of the text of a name.
 pub(crate) fn plan_in(alloc: Global, script: &str, name: &str) -> Result<Arc<Plan>, Fail> {
     match text_in(script, name) {
         Some(text) => plan_of(alloc, text),

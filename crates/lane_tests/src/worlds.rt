@@ -8,7 +8,7 @@ use std::sync::Arc;
 use std::test::Fail;
 use trace_core::Plan;
 
-/// The event that a name and numbers say.
+/// Returns the event of a name and numbers, if there is one.
 fn event_of(name: &str, numbers: &[u32]) -> Option<Event> {
     match (name, numbers) {
         ("publish", [instance]) => Some(Event::Publish {
@@ -38,13 +38,13 @@ fn event_of(name: &str, numbers: &[u32]) -> Option<Event> {
     }
 }
 
-/// The counts of the first lane. Each world has one.
+/// Returns the counts of the first lane. Each world has one.
 fn first_counts(world: &World) -> LaneCounts {
     world.facts();
     world.lane(0).counts()
 }
 
-/// Makes a call that is no event.
+/// Makes a call that is not an event.
 fn ask(rt: &HostRuntime, world: &mut World, call: &str) -> Result<(), Fail> {
     match call {
         "drain" => println!(rt; "{call}: {}", world.drain())?,
@@ -85,7 +85,7 @@ fn make_each(rt: &HostRuntime, world: &mut World, calls: &str) -> Result<(), Fai
     Ok(())
 }
 
-/// The world of a plan, by a policy, a number of workers and a window.
+/// Returns the world of a plan, by a policy, a number of workers and a window.
 fn world_of(
     alloc: Global,
     plan: Arc<Plan>,

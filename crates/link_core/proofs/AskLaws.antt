@@ -1,4 +1,4 @@
--- What an output is that is asked for the known words.
+-- The fact of an output that is computed from the known words.
 use Rattle.std.proofs.Common.{◌≡◌, ◌∙◌, ℕ, Bool, true, false, ℤ, List, length, map, Option, Some, sym, ap, ap₂, subst}
 use Rattle.std.proofs.lemmas.Option.{same_Some}
 use Rattle.std.proofs.lemmas.Slice.Zip.{AllZip-long}

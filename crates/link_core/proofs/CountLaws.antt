@@ -53,7 +53,7 @@ cleared run old new words limits replies redos defined are = record {
     false_twice [] = refl
     false_twice (one ∷ words) = ap (λ rest. false ∷ rest) (false_twice words)
 
--- One item more is known.
+-- One more item is known.
 pub fewer_told : {A : Type 0} (entries : List (Option A)) (place : ℕ) (told : A) → place < length entries → is_some (entry entries place) ≡ false
     → empties (slice_set entries place (Some told)) + 1 ≡ empties entries
 fewer_told entries place told within none = fewer entries place told within (none_there (entry entries place) none)

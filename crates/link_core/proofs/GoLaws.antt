@@ -25,7 +25,7 @@ use Rattle.unit_tree.specs.Ports.{Ports}
 use Rattle.unit_tree.specs.Successor.{Position, point_after}
 use Rattle.unit_tree.specs.Trace.{Row as TraceRow}
 
--- Own states after a step are those after a step from them.
+-- The node's own states after a step are those of a step from them.
 own_from : (me t h : ℕ) (ports : Ports) (owners : List ℕ) (members : List Member) (states : List (List ℤ)) → length owners ≡ length members
     → length states ≡ length members
     → own_states owners me (map state_after (zip (own_states owners me states)

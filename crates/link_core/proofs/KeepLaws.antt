@@ -1,4 +1,4 @@
--- States that are kept and given back, unit by unit.
+-- States that are saved and restored, unit by unit.
 use Rattle.std.proofs.Common.{◌≡◌, ◌∙◌, ℕ, ◌+◌, ◌<◌, ℤ, List, [], length, map, get_or, set, Some, None, Vec, Global, sym, ap, ap₂, subst, arith}
 use Rattle.std.proofs.lemmas.List.{map-set}
 use Rattle.std.proofs.lemmas.Option.{get_or_from_slice_get}
@@ -23,7 +23,7 @@ use Rattle.port_solve.specs.Solved.{HaveStates}
 use Rattle.trace_units.specs.Fleets.{Fleet, with_state}
 use Rattle.unit_tree.specs.Compositions.{Composition, Member}
 
--- Room that is as long as the states is not yet made.
+-- Lists of the right lengths, before any state is copied.
 pub none_kept : (run : Composition) (made states : List (List ℤ)) → HaveStates run made → HaveStates run states → Made made 0 states
 none_kept run made states have had = none_made made states (AllZip-long _ run.members made have ∙ sym (AllZip-long _ run.members states had))
 

@@ -6,7 +6,7 @@ use Rattle.std.proofs.Common.{length-set}
 
 -- ---- A list that is made element by element
 
--- So many elements are those that are to be, and the others are left.
+-- So many elements are changed, and the others are left.
 pub record Made {A : Type 0} (made : List A) (count : ℕ) (whole : List A) : Type 0 where
   pub long : length made ≡ length whole
   pub so_far : take count made ++ drop count whole ≡ whole

@@ -1,4 +1,4 @@
--- What a node keeps when it works.
+-- The invariant of a node when it works.
 use Rattle.std.proofs.Common.{◌≡◌, ◌∙◌, ℕ, ℤ, List, length, map, sym, ap, subst}
 use Rattle.link_core.specs.Inner.{IsSet}
 use Rattle.link_laws.specs.Keeping.{KeepsTo}
@@ -26,7 +26,7 @@ noted_again run old new same defined are = record {
   defined = defined ∙ are.defined ∙ ap (λ (m : Making). map is_defined m.known.words) (sym same);
 }
 
--- Notes that tell the same are those of the same node.
+-- Notes with the same contents are those of the same node.
 pub same_progress : (owners : List ℕ) (me : ℕ) (states : List (List ℤ)) (old new : Notes) (course : Course) (kept : Kept) → making_in new ≡ making_in old
     → progress_in owners me states new course kept ≡ progress_in owners me states old course kept
 same_progress owners me states old new course kept same =

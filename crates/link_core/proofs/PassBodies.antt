@@ -39,7 +39,7 @@ numbered_end [] from (suc k) past = refl
 numbered_end (x ∷ xs) from zero past = absurd (omega (arith, past))
 numbered_end (x ∷ xs) from (suc k) past = numbered_end xs (from + 1) k (omega (arith, past))
 
--- What is left to be made of what is made so far is what had to be made.
+-- Making what is left, after what was made so far, makes all that had to be made.
 pub record Going {X : Type 0} (make : Making → ℕ × X → Making) (xs : List X) (start now : Making) (k : ℕ) : Type 0 where
   pub rest : each make now (drop k (enumerate_from 0 xs)) ≡ each make start (enumerate_from 0 xs)
 
@@ -133,7 +133,7 @@ module _ (run : Composition) (owners : List ℕ) (me : ℕ) (states : List (List
         same = λ own. beside.related own ∙ same_Some beside.other outlet (sym beside.is ∙ there);
       }
 
-  -- What is made of an output is what is made of its item.
+  -- The fact of an output is that of its item.
   pub word_is : (row place : ℕ) (outlet : Outlet) (at : HeldAt place outlet) (own : Bool) (now next : Making) → own ≡ (at.owner == me)
       → next ≡ (if own && is_none (entry now.known.words place) then put_word row place (determined now.known.words outlet) now else now)
       → next ≡ with_word me row now (place, (at.owner, at.one))
@@ -148,7 +148,7 @@ module _ (run : Composition) (owners : List ℕ) (me : ℕ) (states : List (List
       by_test true there = ap (λ one. if is_none (entry now.known.words place) then put_word row place (determined now.known.words one) now else now)
           (sym (there refl))
 
-  -- One output more.
+  -- One more output.
   pub pass_step : (row place number found : ℕ) (now_states : List (List ℤ)) (start now next : Making) → number ≡ place → now_states ≡ states
       → place < length (routes_of run).outputs
       → IfSome (slice_get (routes_of run).outputs place) (λ route. slice_get owners route.instance ≡ Some found)
@@ -175,7 +175,7 @@ module _ (run : Composition) (owners : List ℕ) (me : ℕ) (states : List (List
 
 -- ---- From pass to pass
 
--- As many passes as are left lead from what is made to what all of them make.
+-- As many passes as are left lead from what was made so far to the result of all passes.
 pub record Turning (me row : ℕ) (outs : List (ℕ × (ℕ × Outlet))) (count : ℕ) (start now : Making) (turn : ℕ) : Type 0 where
   pub rest : (left : ℕ) → left + turn ≡ count → passes me row outs left now ≡ passes me row outs count start
 

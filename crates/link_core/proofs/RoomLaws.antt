@@ -1,4 +1,4 @@
--- Room for the states of all instances.
+-- Memory for the states of all instances.
 use Rattle.std.proofs.Common.{◌≡◌, ◌∙◌, ℕ, ◌<◌, ◌≤◌, ℤ, List, [], ◌++◌, length, map, take, get_or, set, Some, Vec, Global, sym, ap, subst, arith, append-nil}
 use Rattle.std.proofs.lemmas.List.{drop_all, map-set, take_all}
 use Rattle.std.proofs.lemmas.Option.{same_Some, get_or_from_slice_get}

@@ -38,7 +38,7 @@ none_left [] (suc k) past = refl
 none_left (x ∷ xs) zero past = absurd (omega (arith, past))
 none_left (x ∷ xs) (suc k) past = none_left xs k (omega (arith, past))
 
--- A list is gone along: what is told of what is left is told of the whole.
+-- A loop over a list: what holds of the elements that are left holds of the whole.
 pub record Along {X Y : Type 0} (tell : List X → Y) (xs : List X) (k : ℕ) : Type 0 where
   pub is : tell (drop k xs) ≡ tell xs
 
@@ -136,7 +136,7 @@ pub least_next : (least first : ℕ) (numbers : List ℕ) → least_of least (fi
 least_next least first [] = refl
 least_next least first (next ∷ numbers) = omega arith
 
--- The least so far and what is left make the least of all.
+-- The least so far, with what is left, is the least of all.
 pub record Least (first : ℕ) (numbers : List ℕ) (k least : ℕ) : Type 0 where
   pub is : least_of least (drop k numbers) ≡ least_of first numbers
 
@@ -171,9 +171,9 @@ pub proposed_is : {X : Type 0} (limit : X → Option ℕ) (xs : List X) (stop lo
 proposed_is limit xs stop longest t k least past so =
     sym (ap (λ left. least_of least (filter_map limit left)) (none_left xs k past)) ∙ so.is ∙ sym (least_next (stop - t) longest (filter_map limit xs))
 
--- ---- An end that is told of one item after the other
+-- ---- An end that is found item by item
 
--- None of the items before a place tells an end.
+-- No item before a place has an end.
 abbrev pub ToldFrom : List (Option Ending) → ℕ → Type 0
 ToldFrom ends k = Along first_some ends k
 

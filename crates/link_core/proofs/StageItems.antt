@@ -1,4 +1,4 @@
--- The items that loops over outputs and instances look at.
+-- The items of loops over outputs and instances.
 use Rattle.std.proofs.Common.{◌≡◌, ◌∙◌, ℕ, ◌<◌, Bool, true, is_some, List, [], length, map, get_or, Option, Some, sym, ap, ap₂, arith}
 use Rattle.std.proofs.lemmas.Option.{slice_get-get_or}
 use Rattle.std.specs.Prelude.{if◌then◌else◌, zip, slice_get}

@@ -1,4 +1,4 @@
--- What own instances make, and how they are stepped.
+-- The facts that the node's own instances make, and their steps.
 use Rattle.std.proofs.Common.{◌≡◌, ◌∙◌, ℕ, zero, suc, ◌+◌, ◌<◌, ◌==◌, Bool, true, false, ◌&&◌, is_none, ℤ, List, [], ◌∷◌, ◌++◌, length, map, get_or, Option}
 use Rattle.std.proofs.Common.{Some, refl, sym, ap, ap₂, arith}
 use Rattle.std.proofs.lemmas.Option.{same_Some, slice_get-get_or}
@@ -49,7 +49,7 @@ at_instance run owners states instance owns long within =
     let state = at_place states instance (omega (arith, long, within)) in
     record { owner = owner.0; owned = owner.1; member = member.0; member_is = member.1; state = state.0; state_is = state.1 }
 
--- What stands in a list, by how it is read.
+-- An element of a list, by how it is read.
 pub get_is : {X : Type 0} (xs : List X) (k : ℕ) (x y : X) → slice_get xs k ≡ Some x → y ≡ get_or xs k y → y ≡ x
 get_is [] k x y is read = absurd (cc)
 get_is (first ∷ xs) zero x y is read = read ∙ cc
@@ -67,7 +67,7 @@ module _ (run : Composition) (owners : List ℕ) (me : ℕ) (states : List (List
       zip_there owners (standings run at) instance one.owner own_standing one.owned
       (zip_there run.members at.states instance one.member (own_state me (one.owner, one.state)) one.member_is own)
 
-  -- Where the instance is one's own, its state is that of its unit.
+  -- Where the node owns the instance, its state is that of its unit.
   own_same : (one.owner == me) ≡ true → own_standing ≡ (one.member, one.state)
   own_same is = ap (λ test. (one.member, if test then one.state else [])) is
 
@@ -116,7 +116,7 @@ module _ (run : Composition) (owners : List ℕ) (me : ℕ) (states : List (List
       (zip_there owners (zip run.members states) instance one.owner (one.member, one.state) one.owned
       (zip_there run.members states instance one.member one.state one.member_is one.state_is))
 
--- ---- Own states after a step
+-- ---- The node's own states after a step
 
 pub own_stepped : (me t h : ℕ) (ports : Ports) (owners : List ℕ) (members : List Member) (states : List (List ℤ)) → length owners ≡ length members
     → length states ≡ length members
@@ -133,7 +133,7 @@ own_stepped me t h ports (owner ∷ owners) (member ∷ members) (state ∷ stat
     by_test true = refl
     by_test false = refl
 
--- ---- What one call makes
+-- ---- The effect of one call
 
 pub limit_made : (own : Bool) (row t instance : ℕ) (ports : Ports) (standing : Standing) (now : Making) (asked : Asked) (limits : List (Option Asked))
     (facts : List Fact) → own ≡ true
@@ -157,7 +157,7 @@ reply_made redo own row t h instance ports standing now next said own_is none sa
     is ∙ ap (λ one. put_said redo row instance one now) said_is
     ∙ sym (ap₂ (λ o n. if o && n then put_said redo row instance (option_map said_of (step_at t h ports standing)) now else now) own_is none)
 
--- ---- One instance more
+-- ---- One more instance
 
 module _ (run : Composition) (owners : List ℕ) (me : ℕ) (states now_states : List (List ℤ)) (owns : length owners ≡ length run.members)
     (long : length states ≡ length run.members) (states_are : now_states ≡ states)
@@ -207,7 +207,7 @@ items_long run owners me point row states owns long =
     as_many_zipped owners (standings run (part_at owners me point row states))
     (as_many_zipped run.members (own_states owners me states) (own ∙ owns) ∙ sym owns) ∙ owns
 
--- ---- What isn't wanted isn't made
+-- ---- What isn't required isn't made
 
 pub limits_stay : (run : Composition) (owners : List ℕ) (me : ℕ) (at : Position) (stage : Stage) (making : Making) → (stage ≡ Limits → ⊥)
     → making ≡ limits_by run owners me at stage making

@@ -1,4 +1,4 @@
--- Facts that arrive: of whose instance they are, and what a node is that learnt one.
+-- Facts that arrive: whose instance they are of, and a node after it learnt one.
 use Rattle.std.proofs.Common.{◌≡◌, ◌∙◌, ℕ, zero, suc, ◌-◌, ◌<◌, ◌≤◌, ◌==◌, Bool, true, false, ◌||◌, is_some, ℤ, List, [], ◌∷◌, length, map, Option}
 use Rattle.std.proofs.Common.{Some, None, Ok, Err, refl, sym, ap, ap₂, subst, arith}
 use Rattle.std.proofs.lemmas.Option.{same_Some, slice_get_past, slice_get_within}
@@ -41,7 +41,7 @@ use Rattle.unit_tree.specs.Trace.{Stand}
 use Rattle.unit_tree.specs.declared.order.Route.{Route}
 use Rattle.unit_tree.proofs.RouteLaws.{count_is}
 
--- ---- Of whose instance
+-- ---- The instance of a fact
 
 nothing_owned : (me : ℕ) (owners : List ℕ) (members : List Member) → length owners ≡ length members
     → own_states owners me (map (λ member. []) members) ≡ map (λ member. []) members
@@ -88,7 +88,7 @@ module _ (run : Composition) (owners : List ℕ) (node : ℕ) (owns : length own
   output_missing place past =
       sym (ap (λ one. is_held_by node (option_map (λ (pair : ℕ × Outlet). pair.0) one)) (slice_get_past items place (omega (arith, past, item_count))))
 
-  -- A fact of an instance that is owned tells of an item that there is.
+  -- A fact of an owned instance is one of an existing item.
   held_there : {X : Type 0} (all : List X) (place : ℕ) (owner_of : X → ℕ) → is_held_by node (option_map owner_of (slice_get all place)) ≡ true
       → place < length all
   held_there all place owner_of is = by_found (slice_get all place) refl
@@ -133,7 +133,7 @@ word_is run stand place seen long within so =
 
 -- ---- A node that takes a fact
 
--- What dropping it comes to.
+-- The effect of dropping it.
 pub dropped_is : (run : Composition) (owners : List ℕ) (me : ℕ) (node : Progress) (fact : Fact) (test : Bool) → test ≡ drops (rule_of run owners) me node fact
     → test ≡ true
     → (node, Dropped) ≡ taken (rule_of run owners) me node fact
@@ -212,7 +212,7 @@ module _ (plan : Planned) (judged : IsJudged plan.run) (owners : List ℕ) (me :
 
 -- ---- The facts of a node
 
--- Each may be taken.
+-- The node may take each of them.
 pub facts_honest : (run : Composition) (judged : IsJudged run) (owners : List ℕ) (me : ℕ) (node : Progress) → length owners ≡ length run.members
     → KeepsTo run (rule_of run owners) me node
     → AllByRecursion (IsHonest run) node.facts

@@ -78,7 +78,7 @@ pub steps_plan : (old new : Fleet) (instance time step : ℕ) (result : Result �
 steps_plan old new instance time step (Ok accepted) made = ap (λ (f : Fleet). f.plan) made.1
 steps_plan old new instance time step (Err fault) made = ap (λ (f : Fleet). f.plan) made.1
 
--- Units whose state is put back are as they were.
+-- Units whose state is restored are as they were.
 pub put_back : (old new : Fleet) (instance time step : ℕ) (result : Result ℕ Fault) (state : List ℤ) → Steps old instance time step result new
     → slice_get old.states instance ≡ Some state → with_state new instance state ≡ old
 put_back old new instance time step (Ok accepted) state made is =
@@ -151,7 +151,7 @@ module _ (old : Fleet) (run : Composition) (run_is : old.plan.run ≡ run) (inst
 
 -- ---- All instances in turn
 
--- The states of some instances are those after the step, and the others are left.
+-- The states of some instances are those after the step, and the others are unchanged.
 pub record Stepping (old now : Fleet) (k : ℕ) (whole : List (List ℤ)) : Type 0 where
   pub made : Made now.states k whole
   pub left : drop k now.states ≡ drop k old.states

@@ -1,4 +1,4 @@
--- Words that are asked and learnt.
+-- Words that are computed and learnt.
 use Rattle.std.proofs.Common.{◌≡◌, ◌∙◌, ℕ, zero, suc, ◌<◌, Bool, true, false, is_none, ℤ, pos, List, [], ◌∷◌, length, map, get_or, Option, Some, None, Ok, Err}
 use Rattle.std.proofs.Common.{refl, sym, ap, subst, arith}
 use Rattle.std.specs.Prelude.{if◌then◌else◌, slice_get, slice_set, IfSome}
@@ -42,9 +42,9 @@ as_many words known is = count words ∙ ap length (sym is)
     count [] = refl
     count (one ∷ words) = let rest = count words in omega (arith, rest)
 
--- ---- What is asked
+-- ---- The outcome of an output
 
--- What is told of an output that is asked.
+-- What a fact says of the outcome of an output.
 abbrev pub seen_given : Option Outcome → Option Seen
 seen_given given = option_map (λ one. seen_of (Some one)) given
 

@@ -1,4 +1,4 @@
--- What a node keeps beside what contracts see of it.
+-- The invariant of a node, with its private fields.
 use Rattle.std.specs.Prelude.{◌≡◌, ◌≤◌, ◌^◌, ℕ, ℤ, List, map, length, vec_capacity}
 use Rattle.std.specs.List.{AllByRecursion}
 use Rattle.link_laws.specs.Keeping.{KeepsTo}
@@ -24,8 +24,8 @@ node_state node = record {
   progress = progress_in node.owners node.me node.units.states node.notes node.course node.kept;
 }
 
--- Its units are those of its plan, and inputs have the words that are known. There is room for the states of all instances, twice, and
--- for the words of a row.
+-- Its units are those of its plan, and inputs have the known words. There is memory for the states of all instances, twice, and for
+-- the words of a row.
 pub record IsSet (plan : Planned) (owners : List ℕ) (me : ℕ) (units : Fleet) (notes : Notes) (course : Course) (kept : Kept)
     (before : List (List ℤ)) : Type 0 where
   pub tied : units.plan ≡ plan

@@ -4,7 +4,7 @@ use Rattle.link_laws.specs.Nodes.{Progress}
 use Rattle.link_laws.specs.Pairs.{Pair}
 use Rattle.trace_plan.specs.Plans.{Planned}
 
--- A plan, the owner of each instance, which node it is, and how far it is.
+-- A node: its plan, the owner of each instance, its number, and its progress.
 pub record NodeState : Type 0 where
   pub plan : Planned
   pub owners : List ℕ
@@ -17,7 +17,7 @@ pub record IsSameNode (old new : NodeState) : Type 0 where
   pub owners : new.owners ≡ old.owners
   pub me : new.me ≡ old.me
 
--- A plan, the owner of each instance, and how far both nodes are.
+-- A pair: its plan, the owner of each instance, and the progress of both nodes.
 pub record PairState : Type 0 where
   pub plan : Planned
   pub owners : List ℕ

@@ -1,4 +1,4 @@
--- Notes as they are held: the board, the facts, and room for as many more as items are not known. None of it need be believed.
+-- Notes as the code has them: the board, the facts, and memory for as many more as there are unknown items. No promise depends on them.
 use Rattle.std.specs.Prelude.{◌≡◌, ℕ, suc, ◌+◌, ◌≤◌, ◌<◌, ◌==◌, min, nat_lt, Bool, true, false, ◌&&◌, is_none, ℤ, List, [], ◌∷◌, map, zip, length}
 use Rattle.std.specs.Prelude.{slice_set, vec_capacity, if◌then◌else◌, Option, Some, None, Result, Ok, Err, ⊤}
 use Rattle.std.specs.Option.{option_map}
@@ -71,11 +71,11 @@ pub record AreNotes (run : Composition) (notes : Notes) : Type 0 where
   pub redos : length notes.redos.items ≡ length run.members
   pub defined : notes.defined.items ≡ map is_defined notes.words.items
 
--- With an output that was learnt.
+-- The notes after an output was learnt.
 abbrev pub with_seen : ℕ → Seen → Making → Making
 with_seen place seen making = record { known = record making.known { words = slice_set making.known.words place (Some seen) }; facts = making.facts }
 
--- ---- Where a node stands
+-- ---- The position of a node
 
 -- A position without states.
 abbrev pub position_at : Point → ℕ → Position
@@ -84,11 +84,11 @@ position_at point number = record { point = point; states = []; number = number 
 abbrev pub place_of : Point → Position
 place_of point = position_at point 0
 
--- A node's part of a position, by the states that its units hold.
+-- A node's part of a position, from the states of its units.
 abbrev pub part_at : List ℕ → ℕ → Point → ℕ → List (List ℤ) → Position
 part_at owners me point number states = record { point = point; states = own_states owners me states; number = number }
 
--- The step of a stage passes not the stop, and one that is made is not one of length zero too many.
+-- The step of a stage does not pass the stop, and a step that is made is not one zero step too many.
 abbrev pub AllowsStep : Composition → Point → Stage → Type 0
 AllowsStep run point (Trial h) = point.t + h ≤ run.stop
 AllowsStep run point (Redo h) = point.t + h ≤ run.stop
@@ -97,7 +97,7 @@ AllowsStep run point other = ⊤
 
 -- ---- Words
 
--- What is told of an output may be its word.
+-- An output may have this word.
 abbrev pub IsWordSeen : Composition → ℕ → Seen → Type 0
 IsWordSeen run place (Is word) = IsWordOf run place word
 IsWordSeen run place other = ⊤
@@ -107,7 +107,7 @@ abbrev pub with_port : Ports → ℕ → Seen → Ports
 with_port ports place (Is word) = slice_set ports place (Some word)
 with_port ports place other = ports
 
--- ---- Steps, by what is told of them
+-- ---- Steps, by facts of them
 
 -- The reply to a step of h from t.
 abbrev pub reply_told : ℕ → ℕ → ℕ → Option Said → ℕ
@@ -117,7 +117,7 @@ reply_told factor t h other = h
 abbrev pub reply_in : ℕ → ℕ → ℕ → Option Said → ℕ
 reply_in factor t h said = if is_held factor t h then h else reply_told factor t h said
 
--- How it ends the run in the trial.
+-- How a fact of a step ends the run in the trial.
 abbrev pub step_end_told : ℕ → Option Said → Option Ending
 step_end_told instance (Some (StepFault fault)) = Some (UnitFault instance place.Step fault)
 step_end_told instance other = None
@@ -130,7 +130,7 @@ abbrev pub least_with : ℕ → Option ℕ → ℕ
 least_with least None = least
 least_with least (Some limit) = min least limit
 
--- How it ends the run where it was made anew.
+-- How a fact of a step ends the run in a redo.
 abbrev pub redo_end_told : ℕ → ℕ → Option Said → Option Ending
 redo_end_told instance asked (Some (Accepted accepted)) = when (nat_lt accepted asked) (StepRefused instance asked accepted)
 redo_end_told instance asked (Some (StepFault fault)) = Some (UnitFault instance place.Step fault)
@@ -139,15 +139,15 @@ redo_end_told instance asked None = None
 abbrev pub redo_end_in : ℕ → ℕ → ℕ → ℕ → Option Said → Option Ending
 redo_end_in instance factor t h said = if is_held factor t h then None else redo_end_told instance (local_step factor t h) said
 
--- ---- What an instance makes
+-- ---- The facts of an instance
 
--- A position is a node's part, by the states that its units hold.
+-- A position is a node's part, from the states of its units.
 pub record IsPartOf (owners : List ℕ) (me : ℕ) (states : List (List ℤ)) (row t : ℕ) (at : Position) : Type 0 where
   pub states_are : at.states ≡ own_states owners me states
   pub number : at.number ≡ row
   pub time : at.point.t ≡ t
 
--- With the limit of an instance, where it is one's own and isn't known.
+-- The facts with the limit of an instance, where the node owns it and the limit isn't known.
 abbrev pub limit_if : Bool → ℕ → ℕ → Ports → Standing → ℕ → Making → Making
 limit_if own row t ports standing instance making =
     if own && is_none (entry making.known.limits instance) then with_made (Limit row instance (asked_of (max_at t ports standing))) making else making
@@ -156,13 +156,13 @@ abbrev pub said_given : Result ℕ Fault → Said
 said_given (Ok accepted) = Accepted accepted
 said_given (Err fault) = StepFault fault
 
--- With the reply of an instance, where it is one's own and isn't known.
+-- The facts with the reply of an instance, where the node owns it and the reply isn't known.
 abbrev pub reply_if : Bool → Bool → ℕ → ℕ → ℕ → Ports → Standing → ℕ → Making → Making
 reply_if redo own row t h ports standing instance making =
     if own && is_none (said_entry redo making.known instance) then put_said redo row instance (option_map said_of (step_at t h ports standing)) making
     else making
 
--- The state of an instance after a step, where it is one's own.
+-- The state of an instance after a step, where the node owns it.
 abbrev pub stepped_if : Bool → ℕ → ℕ → Ports → Standing → List ℤ
 stepped_if own t h ports (member, state) = if own then state_after (state, step_at t h ports (member, state)) else state
 
@@ -174,7 +174,7 @@ stepped run owners me t h ports states = map (stepped_one me t h ports) (zip own
 
 -- ---- What is known is true
 
--- Of the place of the trace with this point and number, where own units hold the states.
+-- It is true at the place of the trace with this point and number, where the node's own units have the states.
 pub record IsTrue (run : Composition) (owners : List ℕ) (me : ℕ) (point : Point) (row : ℕ) (states : List (List ℤ)) (known : Board) : Type 0 where
   pub stand : Stand
   pub place : IsPlace run stand
@@ -191,7 +191,7 @@ AreFed run inputs ports other = ⊤
 
 -- ---- Facts that arrive
 
--- What is known with a fact.
+-- What is known after a fact.
 abbrev pub knowing_fact : Fact → Making → Making
 knowing_fact fact making = record { known = with_fact making.known fact; facts = making.facts }
 

@@ -1,4 +1,4 @@
--- What a node is about to work with. None of it need be believed.
+-- A node that is about to work. No promise depends on these definitions.
 use Rattle.std.specs.Prelude.{◌≡◌, ◌≤◌, ◌^◌, ◌-◌, ◌==◌, ◌||◌, Bool, not, is_some, ℕ, ℤ, List, map, length, if◌then◌else◌, Option, Some, None}
 use Rattle.link_laws.specs.Boards.{Board, row_of}
 use Rattle.link_laws.specs.Making.{is_own, limits_made, ports_in, redos_made, replies_made, words_made}
@@ -20,7 +20,7 @@ use Rattle.unit_tree.specs.Routes.{routes_of}
 use Rattle.unit_tree.specs.Successor.{Position}
 use Rattle.unit_tree.specs.Trace.{Row as TraceRow}
 
--- ---- How far a node is, by what it holds
+-- ---- The progress of a node, from its fields
 
 abbrev pub shown_in : Shown → Option TraceRow
 shown_in shown = if shown.there then Some (record { point = shown.point; words = shown.words.items }) else None
@@ -47,7 +47,7 @@ pub record IsJudged (run : Composition) : Type 0 where
   pub sound : IsSound run
   pub bounded : IsBounded run
 
--- ---- A node that is about to make facts
+-- ---- A node that will make facts
 
 pub record IsReady (plan : Planned) (owners : List ℕ) (me : ℕ) (point : Point) (row : ℕ) (units : Fleet) (notes : Notes) : Type 0 where
   pub tied : units.plan ≡ plan
@@ -57,7 +57,7 @@ pub record IsReady (plan : Planned) (owners : List ℕ) (me : ℕ) (point : Poin
   pub words : HaveTheirWords plan.run (ports_in notes.words.items) units.inputs
   pub truth : IsTrue plan.run owners me point row units.states (making_in notes).known
 
--- All that a node makes, behind what was there.
+-- All that a node makes, after what it had.
 abbrev pub all_made : Composition → List ℕ → ℕ → Position → Making → Making
 all_made run owners me at making = redos_made run owners me at
     (replies_made run owners me at (limits_made run owners me at (words_made run owners me at making)))

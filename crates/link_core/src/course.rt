@@ -1,4 +1,4 @@
-//! Where a node stands, and what it shows and keeps.
+//! The position of a node, and the row and the position that it keeps.
 ghost use Rattle.std.specs.Prelude.{◌≡◌, ◌≤◌, length, vec_capacity};
 ghost use Rattle.std.specs.List.{filter_map};
 ghost use Rattle.link_laws.specs.Boards.{Board};
@@ -21,7 +21,7 @@ pub(crate) struct Shown {
     pub(crate) words: Vec<i64>,
 }
 
-/// Where a node stands, and how the trace ended there, where it has.
+/// The position of a node, and how the trace ended there, where it has.
 #[derive(Drop)]
 pub(crate) struct Course {
     pub(crate) point: Point,
@@ -30,7 +30,7 @@ pub(crate) struct Course {
     pub(crate) shown: Shown,
 }
 
-/// What a node keeps, to start again from there.
+/// The saved position of a node, from which it can start again.
 #[derive(Drop)]
 pub(crate) struct Kept {
     pub(crate) point: Point,
@@ -38,7 +38,7 @@ pub(crate) struct Kept {
     pub(crate) states: Vec<Vec<i64>>,
 }
 
-/// Puts the words that are known into a list that has room for them.
+/// Appends the known words to a list that has space for them.
 fn put_known(words: &mut Vec<i64>, seen: &[Option<Seen>])
     requires { length seen.now ≤ vec_capacity words.old }
     ensures items { words.new.items ≡ filter_map (λ word. word) (ports_in seen.now) }
@@ -52,7 +52,7 @@ fn put_known(words: &mut Vec<i64>, seen: &[Option<Seen>])
     }
 }
 
-/// Shows the row at a point, whose words are all known. One with a fault of an output has none.
+/// Keeps the row at a point, whose words are all known. There is no row where an output has a fault.
 pub(crate) fn show(plan: &Plan, shown: &mut Shown, point: Point, words: &[Option<Seen>])
     requires words { length words.now ≡ length (routes_of plan.now.run).outputs }
     requires room { length words.now ≤ vec_capacity shown.old.words }

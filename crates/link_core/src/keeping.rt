@@ -1,11 +1,11 @@
-//! States of all units, as they are kept and given back.
+//! Saving and restoring the states of all units.
 ghost use Rattle.std.specs.Prelude.{◌≡◌, map};
 ghost use Rattle.port_solve.specs.Solved.{HaveStates};
 
 use snap_store::copy_words;
 use trace_units::Units;
 
-/// Copies the state of each unit into lists that are as long.
+/// Copies the state of each unit into a list of the same length.
 pub(crate) fn keep_states(units: &Units, states: &mut Vec<Vec<i64>>)
     requires long { HaveStates units.now.plan.run (map (λ one. one.items) states.old.items) }
     ensures states { map (λ one. one.items) states.new.items ≡ units.now.states }
@@ -15,7 +15,7 @@ pub(crate) fn keep_states(units: &Units, states: &mut Vec<Vec<i64>>)
     }
 }
 
-/// Gives each unit a state again.
+/// Restores the state of each unit.
 pub(crate) fn restore_states(units: &mut Units, states: &[Vec<i64>])
     requires long { HaveStates units.old.plan.run (map (λ one. one.items) states.now) }
     ensures units { units.new ≡ record units.old { states = map (λ one. one.items) states.now } }

@@ -1,5 +1,5 @@
-//! That no length in a fact is above the greatest word. What a `max` gives is a word where its numbers are, and these are by their type,
-//! which is known of each number that was read.
+//! Proofs that no length in a fact is above the greatest word. The result of a `max` is a word where its numbers are words. These are, by
+//! the type of each number of the tree.
 ghost use Rattle.std.specs.List.{AllByRecursion};
 ghost use Rattle.std.specs.Prelude.{◌≡◌, true};
 ghost use Rattle.fixed_words.specs.Types.{is_word_of};
@@ -9,14 +9,14 @@ ghost use Rattle.link_laws.specs.Lengths.{AreOfWords, LimitHasWords, has_words};
 use trace_plan::Plan;
 use unit_tree::{Expr, Unit};
 
-/// That a word is one of 64 bits.
+/// States that a word has 64 bits.
 fn read_word(word: i64)
     ensures { is_word_of Int64 word ≡ true }
 {
     let _ = word;
 }
 
-/// That the numbers of an expression are words.
+/// States that the numbers of an expression are words.
 fn read_numbers(value: &Expr)
     ensures { has_words value.now ≡ true }
 {
@@ -42,7 +42,7 @@ fn read_numbers(value: &Expr)
     }
 }
 
-/// That the numbers of each unit's `max` are words.
+/// States that the numbers of each unit's `max` are words.
 fn read_limits(units: &[Unit])
     ensures { AllByRecursion LimitHasWords units.now }
 {
@@ -55,7 +55,7 @@ fn read_limits(units: &[Unit])
     read_limits(others);
 }
 
-/// That the numbers of a plan are words: those of each `max`, and the words of parameters.
+/// States that the numbers of a plan are words: those of each `max`, and the words of parameters.
 pub(crate) fn read_plan(plan: &Plan)
     ensures { AreOfWords plan.now.run }
 {

@@ -1,12 +1,12 @@
-//! Two nodes that run one system between them: each owns some of the instances, and learns facts of the other's.
+//! Two nodes that run one system together: each owns some of the instances, and learns facts of the other's.
 //!
-//! A [`Node`] makes the facts of its own instances as far as what it knows allows, and goes on to the next row, or ends, exactly where no
-//! fact of the row is lacking. It takes facts that the other one made, whichever come and how often. It takes memory before anything
-//! changes, so that a call that is refused has done nothing. A [`Pair`] is both nodes, and goes by events.
+//! A [`Node`] makes the facts of its own instances as far as its knowledge allows. It goes on to the next row, or ends, exactly where no
+//! fact of the row is missing. It takes facts that the other one made, in any order and any number of times. It takes memory before
+//! anything changes, so that a call that fails has no effect. A [`Pair`] has both nodes, and is driven by events.
 //!
-//! Facts, what each call makes of a node, and the laws over every list of events are those of `link_laws`. `specs/NodeStates.antt` is what
-//! contracts see of a node. `specs/Noted.antt`, `specs/Ready.antt`, `specs/Inner.antt` and `specs/Joined.antt`, which need not be believed,
-//! say how it is gone about.
+//! Facts, the effect of each call of a node, and the laws over every list of events are those of `link_laws`. `specs/NodeStates.antt`
+//! states what contracts see of a node. `specs/Noted.antt`, `specs/Ready.antt`, `specs/Inner.antt` and `specs/Joined.antt` describe how the
+//! code proceeds; no promise depends on them.
 #![tactic(auto)]
 
 mod course;

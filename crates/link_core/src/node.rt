@@ -32,9 +32,9 @@ pub struct Row<'a> {
     pub words: &'a [i64],
 }
 
-/// One of the two nodes that run a system between them: it owns some of the instances, and learns facts of the others.
+/// One of the two nodes that run a system together: it owns some of the instances, and learns facts of the others.
 ///
-/// Its units of the other's instances stand at their start and are never asked or stepped; their inputs are fed like all.
+/// Its units of the other's instances stay at their start and make no steps. Their inputs are set like all others.
 #[derive(Drop)]
 pub struct Node {
     plan: Arc<Plan>,
@@ -44,7 +44,7 @@ pub struct Node {
     notes: Notes,
     course: Course,
     kept: Kept,
-    /// Room for the states before steps that are tried.
+    /// Memory for the states before a trial.
     before: Vec<Vec<i64>>,
 }
 
@@ -66,11 +66,11 @@ impl Model for Node {
 }
 
 impl Node {
-    /// Node 0 or 1 at the start of a plan. `owners` has the number of the node that owns it for each instance.
+    /// Opens node 0 or 1 at the start of a plan. `owners` has, for each instance, the number of the node that owns it.
     ///
     /// # Errors
     ///
-    /// [`NoMemory`], also where there are more outputs than a fact can tell of.
+    /// [`NoMemory`], also where there are more outputs than the numbers of facts allow.
     pub fn open(alloc: Global, plan: Arc<Plan>, owners: List<u8>, me: u8) -> Result<Node, NoMemory>
         requires owners { length owners ≡ length plan.value.run.members }
         requires one_or_other { AllByRecursion (λ owner. owner ≤ 1) owners }
@@ -83,7 +83,7 @@ impl Node {
         }) }
     {
         judged(&plan);
-        // That the numbers of a plan are words is known by the clause of this call alone.
+        // Called for its clause, which states that the numbers of a plan are words.
         read_plan(&plan);
         let places = plan.order().routes().outputs.len();
         if places as u64 > 4_294_967_296 {
@@ -92,7 +92,7 @@ impl Node {
         let instances = plan.instances() as usize;
         let shared = Arc::clone(&plan)?;
         let units = units_of(alloc, &plan, shared)?;
-        // How long the lists of the units are is known by the clauses of this call alone.
+        // Called for its clauses, which state how long the lists of the units are.
         let _ = units.count();
         let notes = notes_of(alloc, places, instances)?;
         let course = course_of(alloc, places)?;
@@ -115,12 +115,12 @@ impl Node {
     }
 
     /// Makes all facts of its own for the row that the known ones allow and that it hasn't made since it came there, and lists them:
-    /// words, limits, replies, and those of a step made anew. Where no fact of the row is then lacking, it goes on to the next row, or
-    /// the trace has ended there.
+    /// words, limits, replies, and those of a redo. Where no fact of the row is then missing, it goes on to the next row, or the trace
+    /// ends there.
     ///
     /// # Errors
     ///
-    /// [`NoMemory`]: nothing was done.
+    /// [`NoMemory`]: nothing changed.
     pub fn work(&mut self) -> Result<Taken, NoMemory>
         ensures worked { IfOk result (λ answer. (self.new.progress, answer)
             ≡ worked (rule_of self.old.plan.run self.old.owners) self.old.me self.old.progress) }
@@ -143,12 +143,12 @@ impl Node {
         ))
     }
 
-    /// Takes a fact. It is dropped where the node has ended, the fact is of another row, its item isn't one of an instance that the
-    /// other node owns, or the item is known; else it is known from now on, and the node works.
+    /// Takes a fact. It is dropped where the node has ended, the fact is of another row, its item isn't one of an instance that the other
+    /// node owns, or the item is known. Otherwise it is known from now on, and the node works.
     ///
     /// # Errors
     ///
-    /// [`NoMemory`]: nothing was done.
+    /// [`NoMemory`]: nothing changed.
     pub fn take(&mut self, fact: &Fact) -> Result<Taken, NoMemory>
         requires honest { IsHonest self.old.plan.run fact.now }
         ensures taken { IfOk result (λ answer. (self.new.progress, answer)
@@ -181,20 +181,20 @@ impl Node {
         ))
     }
 
-    /// Keeps the position where it stands.
+    /// Saves the present position.
     pub fn keep(&mut self)
         ensures kept { self.new.progress ≡ keeping self.old.progress }
         ensures same { IsSameNode self.old self.new }
     {
-        // How long the lists of the units are is known by the clauses of this call alone.
+        // Called for its clauses, which state how long the lists of the units are.
         let _ = self.units.count();
         keep_states(&self.units, &mut self.kept.states);
         self.kept.point = self.course.point;
         self.kept.number = self.course.number;
     }
 
-    /// Starts again from the position that was kept last, or from the first one: what is known of the row is forgotten, and an end that
-    /// was reached.
+    /// Starts again from the position that was saved last, or from the first one. It forgets what it knows of the row, and an end that it
+    /// reached.
     pub fn restart(&mut self)
         ensures restarted { self.new.progress ≡ restarted (rule_of self.old.plan.run self.old.owners) self.old.progress }
         ensures same { IsSameNode self.old self.new }
@@ -208,7 +208,7 @@ impl Node {
         self.course.shown.there = false;
     }
 
-    /// All facts that it ever made, in their order.
+    /// Returns all facts that it ever made, in their order.
     pub fn facts(&self) -> &[Fact]
         ensures facts { result.now ≡ self.now.progress.facts }
         ensures honest { AllByRecursion (IsHonest self.now.plan.run) result.now }
@@ -218,7 +218,7 @@ impl Node {
         &self.notes.facts
     }
 
-    /// The number of the row where it stands, from 0.
+    /// Returns the number of its row, from 0.
     pub fn number(&self) -> u64
         ensures number { result ≡ self.now.progress.at.number }
         ensures keeps { KeepsTo self.now.plan.run (rule_of self.now.plan.run self.now.owners) self.now.me self.now.progress }
@@ -226,21 +226,21 @@ impl Node {
         self.course.number
     }
 
-    /// The point where it stands.
+    /// Returns its point.
     pub fn point(&self) -> Point
         ensures { result ≡ self.now.progress.at.point }
     {
         self.course.point
     }
 
-    /// How the trace ended there, where the node has ended.
+    /// Returns how the trace ended there, where the node has ended.
     pub fn ended(&self) -> Option<Ending>
         ensures { result ≡ self.now.progress.ended }
     {
         self.course.ended
     }
 
-    /// The row that it came to last since it started, or at which it ended. A row with a fault of an output has none.
+    /// Returns the row that it came to last since it started, or at which it ended. There is none where an output has a fault.
     pub fn row(&self) -> Option<Row<'_>>
         ensures some { IfSome result (λ row. self.now.progress.row ≡ Some (record { point = row.point; words = row.words.now })) }
         ensures none { IfNone result (self.now.progress.row ≡ None) }

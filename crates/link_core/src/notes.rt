@@ -7,22 +7,22 @@ ghost use Rattle.unit_tree.specs.Compositions.{Composition};
 use fixed_words::NoMemory;
 use link_laws::{Asked, Fact, Said, Seen};
 
-/// What is known of a row, item by item, and all facts that the node ever made.
+/// What a node knows of a row, item by item, and all facts that it ever made.
 #[derive(Drop)]
 pub(crate) struct Notes {
-    /// By places of outputs.
+    /// One for each output, by its place.
     pub(crate) words: Vec<Option<Seen>>,
-    /// By instances, as those below.
+    /// One for each instance; so are the next two.
     pub(crate) limits: Vec<Option<Asked>>,
     pub(crate) replies: Vec<Option<Said>>,
     pub(crate) redos: Vec<Option<Said>>,
-    /// Of each output, whether its word is known.
+    /// For each output, whether its word is known.
     pub(crate) defined: Vec<bool>,
     pub(crate) facts: Vec<Fact>,
 }
 
 #[tactic(auto, using(crate::proofs::CountLaws::fewer, crate::proofs::CountLaws::some_empty))]
-/// Notes what is told of an item that isn't known, and the fact that tells it.
+/// Records an item that isn't known, and its fact.
 pub(crate) fn note<T: Copy>(
     entries: &mut Vec<Option<T>>,
     facts: &mut Vec<Fact>,
@@ -52,7 +52,7 @@ fn fill<T: Copy>(items: &mut Vec<T>, value: T)
 }
 
 impl Notes {
-    /// Makes room for a fact of each item.
+    /// Reserves memory for a fact of each item.
     pub(crate) fn reserve(&mut self) -> Result<(), NoMemory>
         ensures room { OnOk result (HasRoom self.new) }
         ensures made { making_in self.new ≡ making_in self.old }

@@ -15,7 +15,7 @@ use super_time::Point;
 use trace_plan::Plan;
 use trace_units::Units;
 
-/// So many of one value.
+/// Returns a list with so many copies of one value.
 fn filled<T: Copy>(alloc: Global, count: usize, value: T) -> Result<Vec<T>, NoMemory>
     ensures { IfOk result (λ made. made.items ≡ replicate count value) }
 {
@@ -26,7 +26,7 @@ fn filled<T: Copy>(alloc: Global, count: usize, value: T) -> Result<Vec<T>, NoMe
     Ok(made)
 }
 
-/// Notes of so many outputs and instances, of which nothing is known.
+/// Returns notes of so many outputs and instances, of which nothing is known.
 pub(crate) fn notes_of(alloc: Global, places: usize, instances: usize) -> Result<Notes, NoMemory>
     ensures made { IfOk result (λ notes. making_in notes ≡ record {
       known = record {
@@ -49,7 +49,7 @@ pub(crate) fn notes_of(alloc: Global, places: usize, instances: usize) -> Result
     })
 }
 
-/// A course at its start, with room for a row of so many words.
+/// Returns a course at its start, with space for a row of so many words.
 pub(crate) fn course_of(alloc: Global, places: usize) -> Result<Course, NoMemory>
     ensures point { IfOk result (λ course. course.point ≡ record { t = 0; n = 0 }) }
     ensures number { IfOk result (λ course. course.number ≡ 0) }
@@ -71,7 +71,7 @@ pub(crate) fn course_of(alloc: Global, places: usize) -> Result<Course, NoMemory
     })
 }
 
-/// The states of all units.
+/// Returns the states of all units.
 pub(crate) fn states_of(alloc: Global, units: &Units) -> Result<Vec<Vec<i64>>, NoMemory>
     ensures { IfOk result (λ states. map (λ one. one.items) states.items ≡ units.now.states) }
 {
@@ -82,20 +82,20 @@ pub(crate) fn states_of(alloc: Global, units: &Units) -> Result<Vec<Vec<i64>>, N
     Ok(states)
 }
 
-/// Sets the inputs of units that nothing is connected to.
+/// Sets the inputs of units that have no connection.
 fn set_inputs(plan: &Plan, units: &mut Units)
     requires tied { units.old.plan ≡ plan.now }
     ensures plan { units.new.plan ≡ units.old.plan }
     ensures states { units.new.states ≡ units.old.states }
     ensures words { HaveTheirWords plan.now.run [] units.new.inputs }
 {
-    // The shape of the units is known by the clauses of this call alone, before and after.
+    // Called for its clauses, which state the shape of the units, before and after.
     let _ = units.count();
     set_starts(plan.order(), plan.checked(), units);
     let _ = units.count();
 }
 
-/// The units of a plan at their start.
+/// Returns the units of a plan at their start.
 pub(crate) fn units_of(alloc: Global, plan: &Plan, shared: Arc<Plan>) -> Result<Units, NoMemory>
     requires shared { shared.value ≡ plan.now }
     ensures plan { IfOk result (λ units. units.plan ≡ plan.now) }

@@ -7,7 +7,7 @@ use fixed_words::{List, NoMemory};
 use std::alloc::Global;
 use trace_plan::Plan;
 
-/// The owners of a plan's instances by turns: node 0 owns the first one, node 1 the second, and so on.
+/// Returns the owners of a plan's instances by turns: node 0 owns the first one, node 1 the second, and so on.
 pub fn by_turns(alloc: Global, plan: &Plan) -> Result<List<u8>, NoMemory>
     ensures turns { IfOk result (λ owners. owners ≡ by_turns (length plan.now.run.members)) }
     ensures owners { IfOk result (λ owners. length owners ≡ length plan.now.run.members) }

@@ -27,7 +27,7 @@ pub fn deliver(node: &mut Node, other: &Node, place: u32) -> Result<Taken, NoMem
     }
 }
 
-/// Lets an event happen to a node beside the other one.
+/// Applies an event to a node, given the other one.
 fn happen(node: &mut Node, other: &Node, event: &PairEvent) -> Result<Taken, NoMemory>
     requires plan { other.now.plan ≡ node.old.plan }
     ensures happened { IfOk result (λ answer. (node.new.progress, answer)
@@ -49,7 +49,7 @@ fn happen(node: &mut Node, other: &Node, event: &PairEvent) -> Result<Taken, NoM
     }
 }
 
-/// The number of the node to which an event happens.
+/// Returns the number of the node of an event.
 fn node_of(event: &PairEvent) -> u32
     ensures { result ≡ node_of event.now }
 {
@@ -86,11 +86,11 @@ impl Model for Pair {
 }
 
 impl Pair {
-    /// Both nodes at the start of a plan. `owners` has the number of the node that owns it for each instance.
+    /// Opens both nodes at the start of a plan. `owners` has, for each instance, the number of the node that owns it.
     ///
     /// # Errors
     ///
-    /// [`NoMemory`], also where there are more outputs than a fact can tell of.
+    /// [`NoMemory`], also where there are more outputs than the numbers of facts allow.
     pub fn open(alloc: Global, plan: Arc<Plan>, owners: List<u8>) -> Result<Pair, NoMemory>
         requires owners { length owners ≡ length plan.value.run.members }
         requires one_or_other { AllByRecursion (λ owner. owner ≤ 1) owners }
@@ -107,12 +107,12 @@ impl Pair {
         Ok(Pair { first, second })
     }
 
-    /// Lets an event happen, and tells what the call of the node came to. Where there is no such node or fact, it is dropped; to keep
-    /// a position and to start again answer [`Taken::Kept`].
+    /// Applies an event, and returns the result of the call of the node. Where there is no such node or fact, this is
+    /// [`Taken::Dropped`]. Saving a position and starting again return [`Taken::Kept`].
     ///
     /// # Errors
     ///
-    /// [`NoMemory`]: nothing was done.
+    /// [`NoMemory`]: nothing changed.
     pub fn apply(&mut self, event: &PairEvent) -> Result<Taken, NoMemory>
         ensures applied { IfOk result (λ answer. (self.new.both, answer)
             ≡ event_step (rule_of self.old.plan.run self.old.owners) self.old.both event.now) }
@@ -126,14 +126,14 @@ impl Pair {
         }
     }
 
-    /// Node 0.
+    /// Returns node 0.
     pub fn first(&self) -> &Node
         ensures { result.now ≡ record { plan = self.now.plan; owners = self.now.owners; me = 0; progress = self.now.both.first } }
     {
         &self.first
     }
 
-    /// Node 1.
+    /// Returns node 1.
     pub fn second(&self) -> &Node
         ensures { result.now ≡ record { plan = self.now.plan; owners = self.now.owners; me = 1; progress = self.now.both.second } }
     {

@@ -1,4 +1,4 @@
-//! What a row asks for next.
+//! What a row requires next.
 ghost use Rattle.std.specs.Prelude.{◌≡◌, ◌≤◌, ◌<◌, ◌+◌, ◌^◌, ℕ, [], true, min, map, zip, length, is_some, ◌&&◌, ◌==◌, if◌then◌else◌, Some, IfSome};
 ghost use Rattle.std.specs.List.{list_all, filter_map};
 ghost use Rattle.link_laws.specs.Making.{names_of};
@@ -17,14 +17,14 @@ use super_time::{Point, limit, local_step};
 use trace_plan::Plan;
 use unit_tree::{Ending, Place, Route};
 
-/// Whether all items are known.
+/// Returns whether all items are known.
 fn are_known<T: Copy>(entries: &[Option<T>]) -> bool
     ensures { result ≡ list_all is_some entries.now }
 {
     entries.iter().all(|one| one.is_some())
 }
 
-/// How what is told of an output ends the run.
+/// Returns how an output ends the run, if it does, by what is known of it.
 fn word_end(route: &Route, seen: Option<Seen>) -> Option<Ending>
     ensures { result ≡ word_end ((route.now.instance, route.now.output), seen) }
 {
@@ -38,7 +38,7 @@ fn word_end(route: &Route, seen: Option<Seen>) -> Option<Ending>
     }
 }
 
-/// How a fault of an output ends the run: the first by its place.
+/// Returns how a fault of an output ends the run, if there is one: the first by its place.
 pub(crate) fn word_fault(plan: &Plan, words: &[Option<Seen>]) -> Option<Ending>
     requires { length words.now ≡ length (routes_of plan.now.run).outputs }
     ensures { result ≡ first_some (map word_end (zip (names_of plan.now.run) words.now)) }
@@ -53,7 +53,7 @@ pub(crate) fn word_fault(plan: &Plan, words: &[Option<Seen>]) -> Option<Ending>
     None
 }
 
-/// How what is told of a `max` ends the run.
+/// Returns how a `max` ends the run, if it does, by what is known of it.
 fn max_end(instance: u32, asked: Option<Asked>) -> Option<Ending>
     ensures { result ≡ max_end_of (instance, max_by asked) }
 {
@@ -67,7 +67,7 @@ fn max_end(instance: u32, asked: Option<Asked>) -> Option<Ending>
     }
 }
 
-/// How a fault of a `max` ends the run: the first by its instance.
+/// Returns how a fault of a `max` ends the run, if there is one: the first by its instance.
 fn max_fault(limits: &[Option<Asked>]) -> Option<Ending>
     requires { length limits.now ≤ 64 }
     ensures { result ≡ first_told max_end_of (map max_by limits.now) }
@@ -81,7 +81,7 @@ fn max_fault(limits: &[Option<Asked>]) -> Option<Ending>
     None
 }
 
-/// The limit that what is told of a `max` sets at `t`, and at most `least`.
+/// Returns the limit of a `max` at `t`, or `least` where that is less.
 fn capped_limit(factor: u64, t: u64, asked: Option<Asked>, least: u64) -> u64
     requires factor { 1 ≤ factor }
     requires coarsest { factor ≤ 10 ^ 9 }
@@ -94,7 +94,7 @@ fn capped_limit(factor: u64, t: u64, asked: Option<Asked>, least: u64) -> u64
     }
 }
 
-/// The step that is proposed at `t`, where all limits are known.
+/// Returns the proposed step at `t`, where all limits are known.
 fn proposal(plan: &Plan, limits: &[Option<Asked>], t: u64) -> u64
     requires limits { length limits.now ≡ length plan.now.run.members }
     requires time { t ≤ plan.now.run.stop }
@@ -109,7 +109,7 @@ fn proposal(plan: &Plan, limits: &[Option<Asked>], t: u64) -> u64
     least
 }
 
-/// Whether the reply of an instance to a step of `h` from `t` is known, or none is asked for.
+/// Returns whether the reply of an instance to a step of `h` from `t` is known, or not required.
 fn is_answered(factor: u64, t: u64, h: u64, said: Option<Said>) -> bool
     requires factor { 1 ≤ factor }
     requires end { t + h ≤ 10 ^ 15 }
@@ -118,7 +118,7 @@ fn is_answered(factor: u64, t: u64, h: u64, said: Option<Said>) -> bool
     is_held(factor, t, h) || said.is_some()
 }
 
-/// Whether all replies to a step of `h` from `t` are known.
+/// Returns whether all replies to a step of `h` from `t` are known.
 fn are_answered(plan: &Plan, replies: &[Option<Said>], t: u64, h: u64) -> bool
     requires replies { length replies.now ≡ length plan.now.run.members }
     requires end { t + h ≤ 10 ^ 15 }
@@ -132,7 +132,7 @@ fn are_answered(plan: &Plan, replies: &[Option<Said>], t: u64, h: u64) -> bool
     true
 }
 
-/// How the answer of an instance to a step of `h` from `t` ends the run. That of one that is held isn't looked at.
+/// Returns how an instance ends the run in a step of `h` from `t`, if it does, by what is known. Nothing is read of a held instance.
 fn step_end(instance: u32, factor: u64, t: u64, h: u64, said: Option<Said>) -> Option<Ending>
     requires factor { 1 ≤ factor }
     requires end { t + h ≤ 10 ^ 15 }
@@ -151,7 +151,7 @@ fn step_end(instance: u32, factor: u64, t: u64, h: u64, said: Option<Said>) -> O
     }
 }
 
-/// How a fault of a step ends the run: the first by its instance.
+/// Returns how a fault of a step ends the run, if there is one: the first by its instance.
 fn step_fault(plan: &Plan, replies: &[Option<Said>], t: u64, h: u64) -> Option<Ending>
     requires replies { length replies.now ≡ length plan.now.run.members }
     requires end { t + h ≤ 10 ^ 15 }
@@ -167,7 +167,7 @@ fn step_fault(plan: &Plan, replies: &[Option<Said>], t: u64, h: u64) -> Option<E
     None
 }
 
-/// The reply of an instance to a step of `h` from `t`, and at most `least`.
+/// Returns the reply of an instance to a step of `h` from `t`, or `least` where that is less.
 fn capped_reply(factor: u64, t: u64, h: u64, said: Option<Said>, least: u64) -> u64
     requires factor { 1 ≤ factor }
     requires coarsest { factor ≤ 10 ^ 9 }
@@ -184,7 +184,7 @@ fn capped_reply(factor: u64, t: u64, h: u64, said: Option<Said>, least: u64) -> 
     least
 }
 
-/// The least of a step of `h` from `t` and of the replies to it, of which all are known.
+/// Returns the least of a step of `h` from `t` and of the replies to it, which are all known.
 fn least_reply(plan: &Plan, replies: &[Option<Said>], t: u64, h: u64) -> u64
     requires replies { length replies.now ≡ length plan.now.run.members }
     requires end { t + h ≤ 10 ^ 15 }
@@ -199,7 +199,7 @@ fn least_reply(plan: &Plan, replies: &[Option<Said>], t: u64, h: u64) -> u64
     least
 }
 
-/// How the answer of an instance to a step that was made anew ends the run: by its fault, or where it accepts less than it was asked.
+/// Returns how an instance ends the run in a redo: by its fault, or where it accepts less than the whole step.
 fn refusal(instance: u32, factor: u64, t: u64, h: u64, said: Option<Said>) -> Option<Ending>
     requires factor { 1 ≤ factor }
     requires end { t + h ≤ 10 ^ 15 }
@@ -224,7 +224,7 @@ fn refusal(instance: u32, factor: u64, t: u64, h: u64, said: Option<Said>) -> Op
     }
 }
 
-/// How a step that was made anew ends the run: by the first instance that faults or accepts less than it was asked.
+/// Returns how a redo ends the run, if it does: by the first instance that faults or accepts less than the whole step.
 fn redo_end(plan: &Plan, redos: &[Option<Said>], t: u64, h: u64) -> Option<Ending>
     requires redos { length redos.now ≡ length plan.now.run.members }
     requires end { t + h ≤ 10 ^ 15 }
@@ -240,7 +240,7 @@ fn redo_end(plan: &Plan, redos: &[Option<Said>], t: u64, h: u64) -> Option<Endin
     None
 }
 
-/// The stage of a row that goes on by a step of `h`, unless this is one of length zero too many.
+/// Returns the stage of a row that goes on by a step of `h`, unless this is one zero step too many.
 fn stage_on(plan: &Plan, point: Point, h: u64) -> Stage
     requires end { point.t + h ≤ plan.now.run.stop }
     ensures stage { result ≡ stage_on plan.now.run (place_of point) h }
@@ -253,14 +253,14 @@ fn stage_on(plan: &Plan, point: Point, h: u64) -> Stage
     }
 }
 
-/// The stage of a row whose step is made anew by `h`.
+/// Returns the stage of a row with a redo of `h`.
 fn stage_of_redo(plan: &Plan, point: Point, redos: &[Option<Said>], h: u64) -> Stage
     requires redos { length redos.now ≡ length plan.now.run.members }
     requires end { point.t + h ≤ plan.now.run.stop }
     ensures stage { result ≡ stage_of_redo plan.now.run (place_of point) redos.now h }
     ensures step { AllowsStep plan.now.run point result }
 {
-    // How large the numbers of a plan are is known by the clauses of this call alone.
+    // Called for its clauses, which state how large the numbers of a plan are.
     let _ = plan.stop();
     if !are_answered(plan, redos, point.t, h) {
         return Stage::Redo(h);
@@ -271,14 +271,14 @@ fn stage_of_redo(plan: &Plan, point: Point, redos: &[Option<Said>], h: u64) -> S
     stage_on(plan, point, h)
 }
 
-/// The stage of a row at which a step of `h` is tried.
+/// Returns the stage of a row with a trial of `h`.
 fn stage_of_trial(plan: &Plan, point: Point, notes: &Notes, h: u64) -> Stage
     requires notes { AreNotes plan.now.run notes.now }
     requires end { point.t + h ≤ plan.now.run.stop }
     ensures stage { result ≡ stage_of_trial plan.now.run (place_of point) notes.now.replies.items notes.now.redos.items h }
     ensures step { AllowsStep plan.now.run point result }
 {
-    // How large the numbers of a plan are is known by the clauses of this call alone.
+    // Called for its clauses, which state how large the numbers of a plan are.
     let _ = plan.stop();
     if !are_answered(plan, &notes.replies, point.t, h) {
         return Stage::Trial(h);
@@ -294,14 +294,14 @@ fn stage_of_trial(plan: &Plan, point: Point, notes: &Notes, h: u64) -> Stage
     }
 }
 
-/// The stage of a row whose words are known, and where no end comes before the limits.
+/// Returns the stage of a row whose words are known, and where no end comes before the limits.
 fn stage_of_limits(plan: &Plan, point: Point, notes: &Notes) -> Stage
     requires notes { AreNotes plan.now.run notes.now }
     requires time { point.t ≤ plan.now.run.stop }
     ensures stage { result ≡ stage_of_limits plan.now.run (place_of point) (making_in notes.now).known }
     ensures step { AllowsStep plan.now.run point result }
 {
-    // How large the numbers of a plan are is known by the clauses of this call alone.
+    // Called for its clauses, which state how large the numbers of a plan are.
     let _ = plan.instances();
     if !are_known(&notes.limits) {
         return Stage::Limits;
@@ -313,7 +313,7 @@ fn stage_of_limits(plan: &Plan, point: Point, notes: &Notes) -> Stage
     stage_of_trial(plan, point, notes, h)
 }
 
-/// What a row at this point, of this number, asks for next.
+/// Returns what the row at this point and with this number requires next.
 pub(crate) fn find_stage(plan: &Plan, point: Point, number: u64, notes: &Notes) -> Stage
     requires notes { AreNotes plan.now.run notes.now }
     requires time { point.t ≤ plan.now.run.stop }
@@ -321,7 +321,7 @@ pub(crate) fn find_stage(plan: &Plan, point: Point, number: u64, notes: &Notes) 
     ensures stage { result ≡ stage_of plan.now.run (names_of plan.now.run) (position_at point number) (making_in notes.now).known }
     ensures step { AllowsStep plan.now.run point result }
 {
-    // How large the numbers of a plan are is known by the clauses of this call alone.
+    // Called for its clauses, which state how large the numbers of a plan are.
     let _ = plan.instances();
     if !are_known(&notes.words) {
         return Stage::Words;

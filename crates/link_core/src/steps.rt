@@ -19,7 +19,7 @@ use super_time::{Point, local_step, local_time};
 use trace_plan::Plan;
 use trace_units::Units;
 
-/// A step of `h` that is tried at a row and its point, or made anew.
+/// A trial or a redo of `h`, at a row and its point.
 #[derive(Clone, Copy, Debug, PartialEq, Eq)]
 pub(crate) struct Trial {
     pub(crate) row: u64,
@@ -28,7 +28,7 @@ pub(crate) struct Trial {
     pub(crate) redo: bool,
 }
 
-/// What is told of a `max`.
+/// Returns what a fact says of the result of a `max`.
 fn asked(given: Result<Option<u64>, Fault>) -> Asked
     ensures { result ≡ asked_of given }
 {
@@ -39,7 +39,7 @@ fn asked(given: Result<Option<u64>, Fault>) -> Asked
     }
 }
 
-/// What is told of a step.
+/// Returns what a fact says of the result of a step.
 fn said(given: Result<u64, Fault>) -> Said
     ensures { result ≡ said_given given }
 {
@@ -49,7 +49,7 @@ fn said(given: Result<u64, Fault>) -> Said
     }
 }
 
-/// What the `max` of an instance is at `t`. All units stay.
+/// Returns what a fact says of an instance's `max` at `t`. All units stay as they are.
 fn ask_max(plan: &Plan, units: &mut Units, instance: u32, t: u64) -> Asked
     requires tied { units.old.plan ≡ plan.now }
     requires there { instance < length plan.now.run.members }
@@ -63,7 +63,7 @@ fn ask_max(plan: &Plan, units: &mut Units, instance: u32, t: u64) -> Asked
     asked(units.max_step(instance, time))
 }
 
-/// Makes the limit of an instance at a row, where it is one's own and isn't known.
+/// Makes the limit of an instance at a row, where the node owns it and the limit isn't known.
 fn make_limit(
     plan: &Plan,
     units: &mut Units,
@@ -98,7 +98,7 @@ fn make_limit(
     note(&mut notes.limits, &mut notes.facts, instance, asked, fact);
 }
 
-/// Makes the limits of one's own instances at a row.
+/// Makes the limits of the node's own instances at a row.
 pub(crate) fn make_limits(
     plan: &Plan,
     units: &mut Units,
@@ -120,7 +120,7 @@ pub(crate) fn make_limits(
     ensures room { HasRoom notes.new }
     ensures kept { units.new ≡ units.old }
 {
-    // How long the lists of the units are is known by the clauses of this call alone.
+    // Called for its clauses, which state how long the lists of the units are.
     let _ = units.count();
     for instance in 0..plan.instances() {
         let own = owners[instance as usize] == me;
@@ -128,7 +128,8 @@ pub(crate) fn make_limits(
     }
 }
 
-/// What an instance makes of a step of `h` from `t`: nothing where it is held. Its state is put back, so that all units stay.
+/// Returns the result of an instance's step of `h` from `t`, or `None` where it is held. Its state is restored, so that all units stay as
+/// they are.
 fn try_step(
     plan: &Plan,
     units: &mut Units,
@@ -151,7 +152,7 @@ fn try_step(
     if is_held(factor, t, h) {
         return None;
     }
-    // How long the lists of the units are is known by the clauses of this call alone, before and after.
+    // Called for its clauses, which state how long the lists of the units are, before and after.
     let _ = units.count();
     copy_words(before, units.state(instance));
     let time = local_time(factor, t);
@@ -162,7 +163,7 @@ fn try_step(
     Some(said(made))
 }
 
-/// Whether the reply of an instance, or that to a step made anew, is known.
+/// Returns whether the reply of an instance to the trial or to the redo is known.
 fn has_said(notes: &Notes, redo: bool, instance: u32) -> bool
     requires replies { instance < length notes.now.replies.items }
     requires redos { instance < length notes.now.redos.items }
@@ -176,7 +177,7 @@ fn has_said(notes: &Notes, redo: bool, instance: u32) -> bool
     }
 }
 
-/// Notes a reply of an instance that isn't known, or that to a step made anew.
+/// Records the unknown reply of an instance to the trial or to the redo.
 fn note_said(notes: &mut Notes, redo: bool, row: u64, instance: u32, said: Said)
     requires replies { instance < length notes.old.replies.items }
     requires redos { instance < length notes.old.redos.items }
@@ -199,7 +200,7 @@ fn note_said(notes: &mut Notes, redo: bool, row: u64, instance: u32, said: Said)
     }
 }
 
-/// Makes the reply of an instance to a step of `h` from `t`, where it is one's own and isn't known.
+/// Makes the reply of an instance to a step of `h` from `t`, where the node owns it and the reply isn't known.
 fn make_reply(
     plan: &Plan,
     units: &mut Units,
@@ -232,7 +233,7 @@ fn make_reply(
     }
 }
 
-/// Makes the replies of one's own instances to a step.
+/// Makes the replies of the node's own instances to a step.
 pub(crate) fn make_replies(
     plan: &Plan,
     units: &mut Units,
@@ -256,7 +257,7 @@ pub(crate) fn make_replies(
     ensures kept { units.new ≡ units.old }
     ensures before { HaveStates plan.now.run (map (λ one. one.items) before.new.items) }
 {
-    // How long the lists of the units are is known by the clauses of this call alone.
+    // Called for its clauses, which state how long the lists of the units are.
     let _ = units.count();
     for instance in 0..plan.instances() {
         let place = instance as usize;
@@ -266,7 +267,7 @@ pub(crate) fn make_replies(
     }
 }
 
-/// Steps an instance by `h` from `t`, where it is one's own and isn't held.
+/// Steps an instance by `h` from `t`, where the node owns it and it isn't held.
 fn step_on(plan: &Plan, units: &mut Units, instance: u32, t: u64, h: u64, own: bool)
     requires tied { units.old.plan ≡ plan.now }
     requires there { instance < length plan.now.run.members }
@@ -288,7 +289,7 @@ fn step_on(plan: &Plan, units: &mut Units, instance: u32, t: u64, h: u64, own: b
     let _ = units.do_step(instance, time, step);
 }
 
-/// Steps one's own instances by `h` from `t`, where they aren't held.
+/// Steps the node's own instances by `h` from `t`, where they aren't held.
 pub(crate) fn step_all(plan: &Plan, units: &mut Units, owners: &[u8], me: u8, t: u64, h: u64)
     requires tied { units.old.plan ≡ plan.now }
     requires owners { length owners.now ≡ length plan.now.run.members }
@@ -297,7 +298,7 @@ pub(crate) fn step_all(plan: &Plan, units: &mut Units, owners: &[u8], me: u8, t:
         → units.new ≡ record units.old { states = stepped plan.now.run owners.now me t h ports units.old.states } }
     ensures plan { units.new.plan ≡ units.old.plan }
 {
-    // How long the lists of the units are is known by the clauses of this call alone.
+    // Called for its clauses, which state how long the lists of the units are.
     let _ = units.count();
     for instance in 0..plan.instances() {
         let own = owners[instance as usize] == me;

@@ -1,4 +1,4 @@
-//! What a node makes of a fact that arrives: whether it is dropped, and how it is learnt.
+//! How a node treats a fact that arrives: whether it drops it, and how it learns it.
 ghost use Rattle.std.specs.Prelude.{◌≡◌, ◌≤◌, ◌<◌, ◌+◌, ℕ, false, length, slice_get, slice_set, is_some, Some};
 ghost use Rattle.link_laws.specs.Boards.{entry};
 ghost use Rattle.link_laws.specs.Making.{is_held_by, is_own, ports_in};
@@ -16,7 +16,7 @@ use link_laws::Fact;
 use trace_plan::Plan;
 use trace_units::Units;
 
-/// Whether there is such an instance, and the node owns it.
+/// Returns whether there is such an instance, and the node owns it.
 fn owns(owners: &[u8], node: u8, instance: u32) -> bool
     ensures { result ≡ is_held_by node (slice_get owners.now instance) }
 {
@@ -26,7 +26,7 @@ fn owns(owners: &[u8], node: u8, instance: u32) -> bool
     }
 }
 
-/// Whether there is an output at a place, and the node owns its instance.
+/// Returns whether there is an output at a place, and the node owns its instance.
 fn owns_output(plan: &Plan, owners: &[u8], node: u8, place: u32) -> bool
     requires owners { length owners.now ≡ length plan.now.run.members }
     ensures { (row : ℕ) (seen : Seen) → result ≡ is_own plan.now.run owners.now node (Word row place seen) }
@@ -37,7 +37,7 @@ fn owns_output(plan: &Plan, owners: &[u8], node: u8, place: u32) -> bool
     owner_at(plan, owners, place as usize) == node
 }
 
-/// Whether a fact is of an instance that the node owns.
+/// Returns whether a fact is of an instance that the node owns.
 fn is_of(plan: &Plan, owners: &[u8], node: u8, fact: Fact) -> bool
     requires owners { length owners.now ≡ length plan.now.run.members }
     ensures { result ≡ is_own plan.now.run owners.now node fact }
@@ -50,14 +50,14 @@ fn is_of(plan: &Plan, owners: &[u8], node: u8, fact: Fact) -> bool
     }
 }
 
-/// Whether something is known of an item.
+/// Returns whether an item is known.
 fn is_told<T: Copy>(entries: &[Option<T>], place: u32) -> bool
     ensures { result ≡ is_some (entry entries.now place) }
 {
     matches!(entries.get(place as usize), Some(Some(_)))
 }
 
-/// Whether a fact's item is known.
+/// Returns whether a fact's item is known.
 fn has(notes: &Notes, fact: Fact) -> bool
     ensures { result ≡ has (making_in notes.now).known fact }
 {
@@ -74,7 +74,7 @@ fn has(notes: &Notes, fact: Fact) -> bool
     }
 }
 
-/// Whether a node drops a fact: it has ended, or the fact is of another row, or not of an instance of the other node, or known.
+/// Returns whether a node drops a fact: it has ended, or the fact is of another row, or not of an instance of the other node, or known.
 pub(crate) fn drops(
     plan: &Plan,
     notes: &Notes,
@@ -93,7 +93,7 @@ pub(crate) fn drops(
         || has(notes, fact)
 }
 
-/// Sets what is told of an item that isn't known.
+/// Sets an item that isn't known.
 #[tactic(auto, using(crate::proofs::CountLaws::fewer_told))]
 fn put<T: Copy>(entries: &mut Vec<Option<T>>, place: u32, told: T)
     requires place { place < length entries.old.items }

@@ -18,7 +18,7 @@ use port_solve::{ask, feed};
 use trace_plan::Plan;
 use trace_units::Units;
 
-/// Whether an output is known to have no word.
+/// Returns whether an output is known to be without a word.
 fn is_undefined(words: &[Option<Seen>], place: u32) -> bool
     ensures { result ≡ is_undefined (entry words.now place) }
 {
@@ -28,14 +28,14 @@ fn is_undefined(words: &[Option<Seen>], place: u32) -> bool
     }
 }
 
-/// Whether one of some outputs is known to have no word.
+/// Returns whether one of some outputs is known to be without a word.
 fn is_one_undefined(words: &[Option<Seen>], places: &[u32]) -> bool
     ensures { result ≡ list_any (λ place. is_undefined (entry words.now place)) places.now }
 {
     places.iter().any(|place| is_undefined(words, *place))
 }
 
-/// What is told of an output that was asked.
+/// Returns what a fact says of the outcome of an output, where the outcome is known.
 fn told(given: Option<Result<i64, Fault>>) -> Option<Seen>
     ensures { result ≡ option_map (λ one. seen_of (Some one)) given }
 {
@@ -46,7 +46,7 @@ fn told(given: Option<Result<i64, Fault>>) -> Option<Seen>
     }
 }
 
-/// What the output at a place is, where the known words determine it.
+/// Returns what a fact says of the output at a place, where the known words determine it.
 fn determined(plan: &Plan, units: &mut Units, notes: &Notes, place: u32) -> Option<Seen>
     requires tied { units.old.plan ≡ plan.now }
     requires place { place < length (routes_of plan.now.run).outputs }
@@ -57,7 +57,7 @@ fn determined(plan: &Plan, units: &mut Units, notes: &Notes, place: u32) -> Opti
     ensures word { IfSome result (IsWordSeen plan.now.run place) }
     ensures kept { units.new ≡ units.old }
 {
-    // The shape of the units is known by the clauses of this call alone, before and after.
+    // Called for its clauses, which state the shape of the units, before and after.
     let _ = units.count();
     let route = &plan.order().routes().outputs.as_slice()[place as usize];
     if is_one_undefined(&notes.words, route.needs.as_slice()) {
@@ -68,14 +68,14 @@ fn determined(plan: &Plan, units: &mut Units, notes: &Notes, place: u32) -> Opti
     told(given)
 }
 
-/// Whether an output has a word.
+/// Returns whether an output has a word.
 fn is_word(seen: Seen) -> bool
     ensures { result ≡ is_defined (Some seen) }
 {
     matches!(seen, Seen::Is(_))
 }
 
-/// Feeds what an output is to the inputs that are connected to it, where it is a word.
+/// Sets the inputs that are connected to an output to its word, where it has one.
 fn feed_seen(plan: &Plan, units: &mut Units, place: u32, seen: Seen)
     requires tied { units.old.plan ≡ plan.now }
     requires place { place < length (routes_of plan.now.run).outputs }
@@ -88,14 +88,14 @@ fn feed_seen(plan: &Plan, units: &mut Units, place: u32, seen: Seen)
     let Seen::Is(word) = seen else {
         return;
     };
-    // The shape of the units is known by the clauses of this call alone, before and after.
+    // Called for its clauses, which state the shape of the units, before and after.
     let _ = units.count();
     feed(plan.order(), plan.checked(), units, place, word);
     let _ = units.count();
 }
 
 #[tactic(auto, using(crate::proofs::CountLaws::fewer))]
-/// Learns what an output is that isn't known. Inputs that it feeds are set to its word.
+/// Learns an output that isn't known. Sets the inputs that it feeds to its word.
 pub(crate) fn learn(plan: &Plan, units: &mut Units, notes: &mut Notes, place: u32, seen: Seen)
     requires tied { units.old.plan ≡ plan.now }
     requires place { place < length (routes_of plan.now.run).outputs }
@@ -116,8 +116,8 @@ pub(crate) fn learn(plan: &Plan, units: &mut Units, notes: &mut Notes, place: u3
     feed_seen(plan, units, place, seen);
 }
 
-/// Makes the word of the output at a place, where it is of one's own and isn't known, and the known words determine it. The answer
-/// tells whether there was one.
+/// Makes the word of the output at a place, where the node owns it, it isn't known, and the known words determine it. Returns whether
+/// there was one.
 fn make_word(
     plan: &Plan,
     units: &mut Units,
@@ -153,7 +153,7 @@ fn make_word(
     true
 }
 
-/// The owner of the instance whose output is at a place.
+/// Returns the owner of the instance whose output is at a place.
 pub(crate) fn owner_at(plan: &Plan, owners: &[u8], place: usize) -> u8
     requires place { place < length (routes_of plan.now.run).outputs }
     requires owners { length owners.now ≡ length plan.now.run.members }
@@ -163,7 +163,7 @@ pub(crate) fn owner_at(plan: &Plan, owners: &[u8], place: usize) -> u8
     owners[instance]
 }
 
-/// One pass over all outputs. The answer tells whether a word was made.
+/// Makes one pass over all outputs. Returns whether a word was made.
 fn make_pass(
     plan: &Plan,
     units: &mut Units,
@@ -187,7 +187,7 @@ fn make_pass(
     ensures states { units.new.states ≡ units.old.states }
     ensures plan { units.new.plan ≡ units.old.plan }
 {
-    // How long the lists of the units are is known by the clauses of this call alone.
+    // Called for its clauses, which state how long the lists of the units are.
     let _ = units.count();
     let mut made = false;
     for place in 0..notes.words.len() {
@@ -222,7 +222,7 @@ pub(crate) fn make_words(
     ensures states { units.new.states ≡ units.old.states }
     ensures plan { units.new.plan ≡ units.old.plan }
 {
-    // How long the lists of the units are is known by the clauses of this call alone.
+    // Called for its clauses, which state how long the lists of the units are.
     let _ = units.count();
     for _turn in 0..notes.words.len() {
         if !make_pass(plan, units, notes, owners, me, row) {

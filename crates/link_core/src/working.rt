@@ -1,4 +1,4 @@
-//! What a node does when it works: it makes facts, and goes on where none is lacking.
+//! The work of a node: it makes facts, and goes on where none is missing.
 ghost use Rattle.std.specs.Prelude.{◌≡◌, ◌≤◌, ◌<◌, ◌==◌, ◌&&◌, ◌+◌, false, map, length, vec_capacity, None};
 ghost use Rattle.link_core.specs.declared.course.Kept.{Kept};
 ghost use Rattle.link_laws.specs.Making.{limits_by, move_by, ports_in, redos_by, replies_by, rule_of, stage_at};
@@ -20,7 +20,7 @@ use super_time::Point;
 use trace_plan::Plan;
 use trace_units::Units;
 
-/// What is known of every plan's run, by the clause of this call.
+/// States what is known of every plan's run.
 pub(crate) fn judged(plan: &Plan)
     ensures { IsJudged plan.now.run }
 {
@@ -29,7 +29,7 @@ pub(crate) fn judged(plan: &Plan)
     let _ = plan.checked().system();
 }
 
-/// Makes the limits of one's own instances, where they are wanted.
+/// Makes the limits of the node's own instances, where the stage requires them.
 fn make_limits_wanted(
     plan: &Plan,
     units: &mut Units,
@@ -52,7 +52,7 @@ fn make_limits_wanted(
     ensures room { HasRoom notes.new }
     ensures kept { units.new ≡ units.old }
 {
-    // How large the numbers of a plan are is known by the clauses of this call alone.
+    // Called for its clauses, which state how large the numbers of a plan are.
     let _ = plan.stop();
     match wanted {
         Stage::Limits => make_limits(plan, units, notes, owners, me, row, point),
@@ -60,7 +60,7 @@ fn make_limits_wanted(
     }
 }
 
-/// Makes the replies of one's own instances to the step that is proposed, where they are wanted.
+/// Makes the replies of the node's own instances to the trial, where the stage requires them.
 fn make_replies_wanted(
     plan: &Plan,
     units: &mut Units,
@@ -86,7 +86,7 @@ fn make_replies_wanted(
     ensures before { HaveStates plan.now.run (map (λ one. one.items) before.new.items) }
     ensures kept { units.new ≡ units.old }
 {
-    // How large the numbers of a plan are is known by the clauses of this call alone.
+    // Called for its clauses, which state how large the numbers of a plan are.
     let _ = plan.stop();
     match wanted {
         Stage::Trial(h) => {
@@ -102,7 +102,7 @@ fn make_replies_wanted(
     }
 }
 
-/// Makes the replies of one's own instances to the step that is made anew, where they are wanted.
+/// Makes the replies of the node's own instances to the redo, where the stage requires them.
 fn make_redos_wanted(
     plan: &Plan,
     units: &mut Units,
@@ -128,7 +128,7 @@ fn make_redos_wanted(
     ensures before { HaveStates plan.now.run (map (λ one. one.items) before.new.items) }
     ensures kept { units.new ≡ units.old }
 {
-    // How large the numbers of a plan are is known by the clauses of this call alone.
+    // Called for its clauses, which state how large the numbers of a plan are.
     let _ = plan.stop();
     match wanted {
         Stage::Redo(h) => {
@@ -144,7 +144,7 @@ fn make_redos_wanted(
     }
 }
 
-/// Makes all that can be made of what is known.
+/// Makes all facts that can be made from what is known.
 pub(crate) fn make_all(
     plan: &Plan,
     units: &mut Units,
@@ -168,7 +168,7 @@ pub(crate) fn make_all(
 {
     judged(plan);
     make_words(plan, units, notes, owners, me, row);
-    // How long the lists of the units are is known by the clauses of this call alone.
+    // Called for its clauses, which state how long the lists of the units are.
     let _ = units.count();
     let wanted = find_stage(plan, point, row, notes);
     make_limits_wanted(plan, units, notes, owners, me, point, row, wanted);
@@ -178,14 +178,14 @@ pub(crate) fn make_all(
     make_redos_wanted(plan, units, before, notes, owners, me, point, row, wanted);
 }
 
-/// The point after a step of `h`, which is not one of length zero too many.
+/// Returns the point after a step of `h`, which is not one zero step too many.
 fn next_point(plan: &Plan, point: Point, h: u64) -> Point
     requires end { point.t + h ≤ plan.now.run.stop }
     requires zeros { point.n ≤ plan.now.run.zero_budget }
     requires budget { ((h == 0) && (point.n == plan.now.run.zero_budget)) ≡ false }
     ensures { result ≡ point_after point h }
 {
-    // How large the numbers of a plan are is known by the clauses of this call alone.
+    // Called for its clauses, which state how large the numbers of a plan are.
     let _ = plan.stop();
     match after(point, h, plan.zero_budget()) {
         NextPoint::Next(next) => next,
@@ -193,7 +193,7 @@ fn next_point(plan: &Plan, point: Point, h: u64) -> Point
     }
 }
 
-/// Goes on to the next row, or ends, where no fact of this one is lacking.
+/// Goes on to the next row, or ends, where no fact of this one is missing.
 pub(crate) fn go_on(
     plan: &Plan,
     units: &mut Units,
@@ -236,7 +236,7 @@ pub(crate) fn go_on(
     }
 }
 
-/// Makes all that can be made of what is known, and goes on where no fact of the row is then lacking.
+/// Makes all facts that can be made from what is known, and goes on where no fact of the row is then missing.
 pub(crate) fn work_on(
     plan: &Plan,
     units: &mut Units,

@@ -1,4 +1,4 @@
--- Lists of what is known beside what is so.
+-- Lists of what is known, compared with what is true.
 use Rattle.fixed_words.specs.Operations.{Outcome}
 use Rattle.fixed_words.specs.declared.types.Fault.{Fault}
 use Rattle.link_laws.specs.Boards.{Board, IsAlike, IsKnown, IsOn, IsSo, asked_of, entry, said_of, said_where, seen_of}
@@ -112,7 +112,7 @@ covered {A} {B} f xs known is = subst (AllZip IsKnown (map (λ x. Some (f x)) xs
     all_there [] = tt
     all_there (y ∷ ys) = (refl, all_there ys)
 
--- Where no item has one.
+-- Where no item has a fact.
 pub nothing : {A B : Type 0} (g : A → Option B) (xs : List A) (known : List (Option B)) → ((x : A) → g x ≡ None) → AllZip IsSo (map g xs) known
     → AllZip IsKnown (map g xs) known
 nothing g [] [] none are = tt
@@ -221,7 +221,7 @@ module _ (t h : ℕ) (ports : Ports) where
   steps_known ((member, state) ∷ standings) (one ∷ known) are =
       ap₂ (λ first rest. first && rest) (one_known (is_held member.factor t h) (made_of member state) one are.0) (steps_known standings known are.1)
 
--- ---- A step without its state tells the same
+-- ---- A step without its state has the same fact
 
 bare_end : (instance : ℕ) (step : Option (Result Moved Fault)) → step_end_of (instance, option_map bare step) ≡ step_end_of (instance, step)
 bare_end instance None = refl

@@ -1,4 +1,4 @@
--- How long the steps are that members ask for and accept.
+-- The limits of members, and the lengths that they accept.
 use Rattle.std.proofs.Common.{◌≡◌, ℕ, zero, suc, ◌+◌, ◌^◌, ◌<◌, ◌≤◌, cond, Bool, true, false, ℤ, pos, negsuc, List, [], ◌∷◌, map, length, Option}
 use Rattle.std.proofs.Common.{Some, None, Result, Ok}
 use Rattle.std.proofs.Common.{Err, refl, sym, subst, arith, ◌++◌}
@@ -40,7 +40,7 @@ use Rattle.unit_tree.specs.declared.unit.State.{State}
 use Rattle.unit_tree.specs.declared.unit.Unit.{Unit}
 use Rattle.std.specs.Str.{bytes_eq}
 
--- A word of any type is one of 64 bits.
+-- A word of any type has 64 bits.
 pub of_any_type : (ty : Ty) (word : ℤ) → is_word_of ty word ≡ true → IsWord word
 of_any_type Int8 word fits = grind (arith, nat_tests)
 of_any_type UInt8 word fits = grind (arith, nat_tests)
@@ -98,7 +98,7 @@ states_fit [] (word ∷ words) are = absurd are
 states_fit (state ∷ states) [] are = absurd are
 states_fit (state ∷ states) (word ∷ words) are = (of_any_type state.ty word are.0, states_fit states words are.1)
 
--- ---- How long a step a member asks for
+-- ---- The limit of a member
 
 small_time : (time : ℕ) → time ≤ 10 ^ 15 → IsWord (pos time)
 small_time time small = grind (arith, nat_tests)
@@ -145,14 +145,14 @@ module _ (types : List Ty) (member : Member) (sound : IsSoundMember types member
   max_short t small factor =
       limit_by_short member.component.unit.max (local_time member.factor t) (omega (arith, local_end member.factor t 0)) words.limit
 
--- ---- How long a step a member accepts
+-- ---- The length that a member accepts
 
 -- It accepts at most so much.
 abbrev pub IsShortStep : Option (Result Moved Fault) → Type 0
 IsShortStep (Some (Ok moved)) = moved.accepted < 2 ^ 63
 IsShortStep _ = ⊤
 
--- With whether the member is held, and what its step gives.
+-- By whether the member is held, and by the result of its step.
 step_by : (held : Bool) (result : Result Moved Fault) (t h : ℕ) (member : Member) (state inputs : List ℤ) → t + h ≤ 10 ^ 15 → IsMember member
     → AreWordsOf member.component.unit.states state
     → step_of member.component state inputs (local_time member.factor t) (local_step member.factor t h) ≡ result
@@ -173,7 +173,7 @@ step_short t h ports member state small is have =
 
 -- ---- The members of a system
 
--- With whether the first unit has the name.
+-- By whether the first unit has the name.
 unit_by : (same : Bool) (unit : Unit) (others : Option Unit) → LimitHasWords unit
     → IfSome others LimitHasWords
     → IfSome (cond same (Some unit) others) LimitHasWords

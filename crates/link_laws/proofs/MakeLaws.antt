@@ -1,4 +1,4 @@
--- What a node makes is true.
+-- The facts that a node makes are true.
 use Rattle.fixed_words.specs.Operations.{Outcome}
 use Rattle.link_laws.specs.Boards.{IsSo, entry, seen_of}
 use Rattle.link_laws.specs.Making.{determined, is_undefined, port_in, ports_in}
@@ -21,7 +21,7 @@ use Rattle.unit_tree.specs.declared.unit.Output.{Output}
 abbrev pub Below : {A : Type 0} → Option A → Option A → Type 0
 Below small great = IfSome small (λ one. great ≡ Some one)
 
--- What is known undefined has no word.
+-- An output that is known to be undefined has no word.
 abbrev pub Lacks : Option Seen → Option ℤ → Type 0
 Lacks known port = is_undefined known ≡ true → port ≡ None
 
@@ -153,7 +153,7 @@ module _ (known : List (Option Seen)) (ports : Ports) (are : AllZip Lacks known 
       ap (option_map (λ inputs. get_of outlet.standing.0.component outlet.standing.1 inputs outlet.output))
       (lacks_inputs outlet.output (zip outlet.standing.0.component.unit.inputs outlet.standing.0.sources) is)
 
--- ---- What is determined is so
+-- ---- What is determined is true
 
 pub determined_is : (known : List (Option Seen)) (ports : Ports) (outlet : Outlet) (seen : Seen) → AllZip Below (ports_in known) ports
     → AllZip Lacks known ports → determined known outlet ≡ Some seen → seen ≡ seen_of (given_at ports outlet)

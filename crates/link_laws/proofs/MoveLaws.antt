@@ -1,4 +1,4 @@
--- Where a node moves, for who doesn't know of stages.
+-- Where a node moves, without stages.
 use Rattle.std.proofs.Common.{◌≡◌, ℕ, suc, List, sym, ap}
 use Rattle.link_laws.specs.Boards.{Board}
 use Rattle.link_laws.specs.Making.{move_by, rule_of, stage_at}

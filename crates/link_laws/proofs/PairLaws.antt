@@ -1,4 +1,4 @@
--- Every event keeps what a pair keeps.
+-- Every event keeps the invariant of a pair.
 use Rattle.link_laws.specs.Boards.{Agrees, Board, IsOn, IsSo, LacksNone, board_of, entry, row_of}
 use Rattle.link_laws.specs.Keeping.{IsHonest, IsMade, IsNewFact, IsPlace, IsRightMove, IsRightRule, IsRowOfTrace, IsSoOn, IsTrueFact, KeepsTo, PairKeepsTo}
 use Rattle.link_laws.specs.Keeping.{StandsAt}

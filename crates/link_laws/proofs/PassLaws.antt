@@ -35,7 +35,7 @@ set_long [] place seen = refl
 set_long (one ∷ words) zero seen = refl
 set_long (one ∷ words) (suc place) seen = let rest = set_long words place seen in omega (arith, rest)
 
--- Nothing was made, or fewer words are lacking; and there are as many as before.
+-- Nothing was made, or fewer words are missing. The number of words is as before.
 record Shrinks (old new : Making) : Type 0 where
   long : length new.known.words ≡ length old.known.words
   fewer : (new ≡ old) ⊎ (empties new.known.words < empties old.known.words)

@@ -1,4 +1,4 @@
--- What a place of the trace keeps to, and what inputs keep when nothing is known.
+-- The invariant of a place of the trace, and that of inputs when nothing is known.
 use Rattle.std.proofs.Common.{◌≡◌, ℕ, zero, suc, ◌≤◌, ℤ, List, [], ◌∷◌, length, map, Option, None, refl, sym, ap, subst, arith}
 use Rattle.std.specs.Prelude.{slice_get, IfSome}
 use Rattle.std.specs.Option.{option_and_then}

@@ -1,4 +1,4 @@
--- Facts that were there before stay in front of those that are made.
+-- Facts that were there before come before those that are made.
 use Rattle.std.proofs.Common.{◌≡◌, ◌∙◌, ℕ, zero, suc, ◌==◌, Bool, true, false, ◌&&◌, is_none, List, [], ◌∷◌, ◌++◌, length, Option, Some, None, refl, sym, ap}
 use Rattle.std.proofs.Common.{append_assoc, append-nil}
 use Rattle.std.specs.Prelude.{if◌then◌else◌}
@@ -21,11 +21,11 @@ use Rattle.unit_tree.specs.Ports.{Outlet, Ports}
 use Rattle.unit_tree.specs.Successor.{Position}
 
 module _ (before : List Fact) where
-  -- What is made, behind the facts that were there before.
+  -- What is made, after the facts that were there before.
   abbrev pub behind : Making → Making
   behind making = record { known = making.known; facts = before ++ making.facts }
 
-  -- A step makes the same behind them.
+  -- A step makes the same after them.
   abbrev Keeps : {X : Type 0} → (Making → X → Making) → Type 0
   Keeps {X} make = (making : Making) (x : X) → make (behind making) x ≡ behind (make making x)
 
@@ -109,7 +109,7 @@ module _ (before : List Fact) where
     redos_behind (Over ending) making = refl
     redos_behind (On h) making = refl
 
-    -- All that is made of what is known, behind the facts that were there before.
+    -- All that is made from what is known, after the facts that were there before.
     pub made_behind : (known : Board)
         → redos_made run owners me at (replies_made run owners me at
         (limits_made run owners me at (words_made run owners me at (record { known = known; facts = before }))))

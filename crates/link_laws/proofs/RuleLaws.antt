@@ -1,4 +1,4 @@
--- The rule of a run is right: what a node makes is true, and it moves where the successor leads.
+-- The rule of a run is right: the facts that a node makes are true, and it moves as the successor does.
 use Rattle.fixed_words.specs.Operations.{Outcome}
 use Rattle.link_laws.proofs.BoardLaws.{known_all, words_end}
 use Rattle.link_laws.proofs.MakeLaws.{Below, Lacks, all_seen, determined_is, ports_below, ports_lack}
@@ -43,7 +43,7 @@ use Rattle.list_laws.proofs.Lists.{each_append}
 
 -- ---- Lists
 
--- The place of each is that of what stands beside it.
+-- The place of each is that of its partner.
 abbrev IsAtPlace : {A B : Type 0} → (A → B → Type 0) → List B → ℕ × A → Type 0
 IsAtPlace {A} {B} R all (place, x) = (y : B) × (slice_get all place ≡ Some y) × R x y
 
@@ -76,9 +76,9 @@ each_keeps : {X : Type 0} (P : Making → Type 0) (Q : X → Type 0) (make : Mak
 each_keeps P Q make [] making step are keeps = keeps
 each_keeps P Q make (item ∷ items) making step are keeps = each_keeps P Q make items (make making item) step are.1 (step making item keeps are.0)
 
--- ---- What stands beside an item of a node
+-- ---- The partner of a node's item
 
--- An item of an owner, beside that of the whole position: the same, where the node is the owner.
+-- An item of an owner, and that of the whole position: they are equal, where the node is the owner.
 abbrev pub IsSame : {A : Type 0} → ℕ → ℕ × A → A → Type 0
 IsSame me (owner, one) other = (owner == me) ≡ true → one ≡ other
 
@@ -119,7 +119,7 @@ held_same me from (owner ∷ owners) (member ∷ members) (state ∷ states) own
     (outlets_same me owner from member state (enumerate_from 0 member.component.unit.outputs))
     (held_same me (from + 1) owners members states (omega arith) (omega arith))
 
--- ---- Names don't ask for states
+-- ---- Names don't depend on states
 
 map-more : {A B : Type 0} (f : A → B) (xs ys : List A) → map f (xs ++ ys) ≡ map f xs ++ map f ys
 map-more f [] ys = refl
@@ -421,7 +421,7 @@ module _ (run : Composition) (owners : List ℕ) (me : ℕ) (stand : Stand) (is_
       let next : Stand = record { at = after run stand.at stand.ports; ports = found.0 } in
       (none, (next, (on, found.1), own_after_is h (ports_in known.words) is (ports_are known none.words)))
 
-  -- ---- The row that it comes to
+  -- ---- The row to which it comes
 
   pub shows_right : (known : Board) → AreWordsKnown run stand known → row_shown run at' known ≡ row_at run stand
   shows_right known words =

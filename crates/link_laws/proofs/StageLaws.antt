@@ -1,4 +1,4 @@
--- The stage of a row is the right one: a row on which nothing is lacking goes where the successor leads.
+-- The stage of a row is the right one: a row that lacks nothing goes where the successor leads.
 use Rattle.fixed_words.specs.declared.types.Fault.{Fault}
 use Rattle.link_laws.proofs.BoardLaws.{bare, bare_ends, bare_redos, bare_replies, covered, front_ends, if_is, known_whole, limits_are, maxes_are, members_in}
 use Rattle.link_laws.proofs.BoardLaws.{nothing, over_is, rest_ends, steps_are, steps_covered, steps_known, whole_is, words_end}
@@ -25,7 +25,7 @@ use Rattle.unit_tree.specs.Trace.{Stand}
 use Rattle.unit_tree.specs.declared.ending.Ending.{Ending}
 use Rattle.unit_tree.specs.declared.ending.Ending.TheVariants.{ZeroBudget}
 
--- Where the agreed step is at most the proposal, it is the least of this and of the replies.
+-- Where the agreed step is at most the proposed one, it is the least of this and of the replies.
 least_agreed : (h : ℕ) (replies : List ℕ) → agreed_step h replies ≤ h → least_of h replies ≡ agreed_step h replies
 least_agreed h [] at_most = refl
 least_agreed h (first ∷ replies) at_most = omega (arith, at_most)

@@ -1,4 +1,4 @@
--- Values of expressions are words where the numbers in them and the words that they see are.
+-- Values of expressions are words, where the numbers in them and the words of their names are.
 use Rattle.std.proofs.Common.{◌≡◌, ◌∙◌, ℕ, cond, Bool, true, false, ◌&&◌, ◌||◌, ◌-◌, nat_le, ℤ, ◌+ℤ◌, ◌-ℤ◌, ◌*ℤ◌, neg_ℤ, pos, List, [], ◌∷◌}
 use Rattle.std.proofs.Common.{Result, Ok, Err, refl, sym, subst}
 use Rattle.std.proofs.lemmas.Bool.{and_parts}
@@ -41,7 +41,7 @@ use Rattle.unit_tree.proofs.FoldLemmas.{fold-Present}
 abbrev pub IsWord : ℤ → Type 0
 IsWord word = is_word_of Int64 word ≡ true
 
--- What an operation gives is a word, or a fault.
+-- The result of an operation is a word, or a fault.
 abbrev pub GivesWord : Outcome → Type 0
 GivesWord (Ok word) = IsWord word
 GivesWord (Err fault) = ⊤

@@ -1,4 +1,4 @@
--- Boards: the facts of a position, item by item; and boards of what is known of a row, beside that of what is so.
+-- Boards: the facts of a position, item by item; and boards of what is known of a row, compared with the true ones.
 use Rattle.fixed_words.specs.Operations.{Outcome}
 use Rattle.fixed_words.specs.declared.types.Fault.{Fault}
 use Rattle.link_laws.specs.declared.fact.Asked.{Asked}
@@ -20,26 +20,26 @@ use Rattle.unit_tree.specs.Ports.{first_some, given_at, outlets, port_fault}
 use Rattle.unit_tree.specs.Successor.{agreed, is_redone, max_end, row_end, standings, steps_by, stop_end, trial, trial_end, when}
 use Rattle.unit_tree.specs.Trace.{Stand}
 
--- ---- What is told of a result
+-- ---- Facts of a result
 
--- Of what an output gives: it is undefined where an input in its needs has no word.
+-- The fact of an output, from its outcome. It is undefined where an input in its needs has no word.
 abbrev pub seen_of : Option Outcome → Seen
 seen_of None = Undefined
 seen_of (Some (Ok word)) = Is word
 seen_of (Some (Err fault)) = Faulted fault
 
--- Of what a `max` gives.
+-- The fact of a `max`, from its result.
 abbrev pub asked_of : Result (Option ℕ) Fault → Asked
 asked_of (Ok None) = Free
 asked_of (Ok (Some local)) = AtMost local
 asked_of (Err fault) = MaxFault fault
 
--- Of what a step gives.
+-- The fact of a step, from its result.
 abbrev pub said_of : Result Moved Fault → Said
 said_of (Ok moved) = Accepted moved.accepted
 said_of (Err fault) = StepFault fault
 
--- What is told of a row, item by item: words by places, the rest by instances.
+-- The facts of a row, item by item: words by places, the others by instances.
 pub record Board : Type 0 where
   pub words : List (Option Seen)
   pub limits : List (Option Asked)
@@ -48,24 +48,24 @@ pub record Board : Type 0 where
 
 -- ---- The facts of a stand
 
--- No output faults there, the run is not at its stop, and it may have more rows.
+-- No output faults there, the run is not at its stop, and its budget allows more rows.
 abbrev pub before_limits : Composition → Stand → Bool
 before_limits run stand = is_none (first_some (port_fault run stand.at.states stand.ports ∷ stop_end run stand.at ∷ row_end run stand.at ∷ []))
 
--- Nor does a `max` fault.
+-- Also no `max` faults.
 abbrev pub before_trial : Composition → Stand → Bool
 before_trial run stand = before_limits run stand && is_none (max_end run stand.at stand.ports)
 
--- Nor does a step of the trial, and the step is made anew.
+-- Also no step of the trial faults, and a redo is due.
 abbrev pub before_redo : Composition → Stand → Bool
 before_redo run stand = before_trial run stand && (is_none (trial_end run stand.at stand.ports) && is_redone run stand.at stand.ports)
 
--- A held member tells nothing of a step.
+-- A held member has no fact of a step.
 abbrev pub said_where : Bool → Option (Result Moved Fault) → Option Said
 said_where there step = if there then option_map said_of step else None
 
--- The facts of a stand: of each output; where the run comes so far, of the `max` of each instance, of its step in the trial, and of
--- its step made anew.
+-- The facts of a stand: of each output; and, where the run comes so far, of the `max` of each instance, of its step in the trial, and
+-- of its step in the redo.
 abbrev pub board_of : Composition → Stand → Board
 board_of run stand = record {
   words = map (λ outlet. Some (seen_of (given_at stand.ports outlet))) (outlets run stand.at.states);
@@ -76,7 +76,7 @@ board_of run stand = record {
 
 -- ---- Facts
 
--- What a list tells of an item.
+-- What a list has for an item.
 abbrev pub entry : {A : Type 0} → List (Option A) → ℕ → Option A
 entry entries place = option_and_then (λ one. one) (slice_get entries place)
 
@@ -85,7 +85,7 @@ row_of (Word row place seen) = row
 row_of (Limit row instance asked) = row
 row_of (Reply row instance redo said) = row
 
--- The fact is one of the board.
+-- The board has the fact.
 abbrev pub IsOn : Board → Fact → Type 0
 IsOn board (Word row place seen) = entry board.words place ≡ Some seen
 IsOn board (Limit row instance asked) = entry board.limits instance ≡ Some asked
@@ -99,9 +99,9 @@ IsAlike (Limit row instance asked) (Limit other at' told) = (row ≡ other) × (
 IsAlike (Reply row instance redo said) (Reply other at' again told) = (row ≡ other) × (instance ≡ at') × (redo ≡ again)
 IsAlike _ _ = ⊥
 
--- ---- What is known, beside what is so
+-- ---- What is known, and what is true
 
--- What is known is so, where there is a fact.
+-- What is known of an item is its fact, where it has one.
 abbrev pub IsSo : {A : Type 0} → Option A → Option A → Type 0
 IsSo so known = IfSome so (λ one. IfSome known (λ other. other ≡ one))
 
@@ -109,20 +109,20 @@ IsSo so known = IfSome so (λ one. IfSome known (λ other. other ≡ one))
 abbrev pub IsKnown : {A : Type 0} → Option A → Option A → Type 0
 IsKnown so known = IfSome so (λ one. known ≡ Some one)
 
--- What is known agrees with what is so.
+-- All that is known is true.
 pub record Agrees (so known : Board) : Type 0 where
   pub words : AllZip IsSo so.words known.words
   pub limits : AllZip IsSo so.limits known.limits
   pub replies : AllZip IsSo so.replies known.replies
   pub redos : AllZip IsSo so.redos known.redos
 
--- No fact is lacking.
+-- No fact is missing.
 pub record LacksNone (so known : Board) : Type 0 where
   pub words : AllZip IsKnown so.words known.words
   pub limits : AllZip IsKnown so.limits known.limits
   pub replies : AllZip IsKnown so.replies known.replies
   pub redos : AllZip IsKnown so.redos known.redos
 
--- As many entries of which none is known.
+-- A list of the same length in which nothing is known.
 abbrev pub are_nothing : {A : Type 0} → List (Option A) → List (Option A)
 are_nothing entries = map (λ one. None) entries

@@ -1,4 +1,4 @@
--- What nodes keep: each stands at its part of a place of the one trace, and tells the truth of it.
+-- The invariant of nodes: each is at its part of a place of the one trace, and all that it says of it is true.
 use Rattle.link_laws.specs.Boards.{Agrees, Board, IsOn, IsSo, LacksNone, board_of, entry, row_of}
 use Rattle.link_laws.specs.Nodes.{End, Go, Making, Move, Progress, Rule, Stay}
 use Rattle.link_laws.specs.Pairs.{Pair}
@@ -25,7 +25,7 @@ pub record IsTrueFact (run : Composition) (fact : Fact) : Type 0 where
   pub row : row_of fact ≡ stand.at.number
   pub on : IsOn (board_of run stand) fact
 
--- What a fact tells is so beside a board, where this has its item.
+-- A fact agrees with a board, where this has its item.
 abbrev pub IsSoOn : Board → Fact → Type 0
 IsSoOn board (Word row place seen) = IsSo (entry board.words place) (Some seen)
 IsSoOn board (Limit row instance asked) = IsSo (entry board.limits instance) (Some asked)
@@ -47,8 +47,8 @@ pub record IsRowOfTrace (run : Composition) (row : TraceRow) : Type 0 where
   pub place : IsPlace run stand
   pub is : row_at run stand ≡ Some row
 
--- A node keeps to the trace: it stands at its part of the place of its number, and so does what it kept; what it knows agrees with the
--- facts there; it has ended as the trace does; each of its facts is the true one of its row; and its row is one of the trace.
+-- A node keeps to the trace. It is at its part of the place of its number, and so is its saved position. What it knows agrees with the
+-- facts there. It has ended as the trace does. Each of its facts is the true one of its row, and its row is one of the trace.
 pub record KeepsTo (run : Composition) (rule : Rule) (me : ℕ) (node : Progress) : Type 0 where
   pub stand : Stand
   pub stands : StandsAt run rule me node.at stand
@@ -63,7 +63,7 @@ pub record PairKeepsTo (run : Composition) (rule : Rule) (pair : Pair) : Type 0 
   pub first : KeepsTo run rule 0 pair.first
   pub second : KeepsTo run rule 1 pair.second
 
--- ---- What is asked of the rule
+-- ---- What the rule must ensure
 
 abbrev pub IsRightMove : Composition → Rule → ℕ → Stand → Board → Move → Type 0
 IsRightMove run rule me stand known Stay = LacksNone (board_of run stand) known → ⊥
@@ -78,8 +78,8 @@ pub record IsMade (run : Composition) (stand : Stand) (making : Making) : Type 0
   pub agrees : Agrees (board_of run stand) making.known
   pub facts : AllByRecursion (IsNewFact run stand) making.facts
 
--- Whatever agrees with the facts of a place: what is made of it is true, a move goes where the successor leads, and comes exactly where
--- no fact is lacking, with the row of the place.
+-- Take anything known that agrees with the facts of a place. What is made from it is true. A move goes where the successor leads, and
+-- comes exactly where no fact is missing, with the row of the place.
 pub record IsRightRule (run : Composition) (rule : Rule) : Type 0 where
   pub numbers : (me : ℕ) (at : Position) → (rule.part me at).number ≡ at.number
   pub first : Stand

@@ -30,7 +30,7 @@ FactsAreFunctional = (board : Board) (one other : Fact) → IsOn board one → I
 abbrev pub AreWordsKnown : Composition → Stand → Board → Type 0
 AreWordsKnown run stand known = AllZip IsKnown (board_of run stand).words known.words
 
--- What a stage says of the stand: a fact is lacking, and which facts there are before; or none is, and where the successor leads.
+-- What a stage says of the stand: that a fact is missing, and which facts come before; or that none is, and where the successor leads.
 abbrev pub IsRightStage : Composition → Stand → Board → Stage → Type 0
 IsRightStage run stand known (Over ending) = LacksNone (board_of run stand) known × (successor run stand.at stand.ports ≡ ends ending)
 IsRightStage run stand known (On h) = LacksNone (board_of run stand) known × (h ≡ agreed run stand.at stand.ports) ×
@@ -43,8 +43,8 @@ IsRightStage run stand known (Trial h) =
 IsRightStage run stand known (Redo h) = (LacksNone (board_of run stand) known → ⊥) × AreWordsKnown run stand known × (before_redo run stand ≡ true) ×
     (h ≡ agreed run stand.at stand.ports)
 
--- Where what is known agrees with the facts of the stand, whose agreed step is at most the proposal, its stage is the right one: it
--- goes on, or ends, exactly where no fact is lacking, and where the successor leads.
+-- Where what is known agrees with the facts of the stand, and its agreed step is at most the proposed one, its stage is right. It
+-- goes on, or ends, exactly where no fact is missing, and as the successor does.
 abbrev pub StagesAreRight : Type 0
 StagesAreRight =
     (run : Composition) (stand : Stand) (known : Board) → length stand.at.states ≡ length run.members
@@ -53,45 +53,46 @@ StagesAreRight =
 
 -- ---- Laws
 
--- Over every list of events each fact is the true one of its row, and each node stands at the place of its number.
+-- Over every list of events each fact is the true one of its row, and each node is at the place of its number.
 abbrev pub EventsKeep : Type 0
 EventsKeep =
     (run : Composition) (rule : Rule) → IsRightRule run rule → (events : List PairEvent)
     → PairKeepsTo run rule (after_events rule (opened_pair rule run) events)
 
--- What a node answers to work: a row or the end exactly where it then lacks no fact of its row.
+-- The result of a node's work is a row or the end exactly where it then lacks no fact of its row.
 abbrev pub AnswersRightly : Composition → Stand → Board → Taken → Type 0
 AnswersRightly run stand known Row = LacksNone (board_of run stand) known × ((next : Stand) × Goes run stand next)
 AnswersRightly run stand known Ended = LacksNone (board_of run stand) known × ((ending : Ending) × (successor run stand.at stand.ports ≡ ends ending))
 AnswersRightly run stand known Kept = LacksNone (board_of run stand) known → ⊥
 AnswersRightly run stand known Dropped = ⊥
 
--- The row that it came to is that of the stand.
+-- The row to which it came is that of the stand.
 abbrev pub ShowsRow : Composition → Stand → Progress × Taken → Type 0
 ShowsRow run stand (node, Row) = node.row ≡ row_at run stand
 ShowsRow run stand (node, Ended) = node.row ≡ row_at run stand
 ShowsRow run stand (node, other) = ⊤
 
--- With a row it goes on to its part of the next position, with the end it has the run's, and else it stays.
+-- With a row it goes on to its part of the next position. With the end it has the run's end. Otherwise it stays.
 abbrev pub MovesRightly : Composition → Rule → ℕ → Position → Stand → Progress × Taken → Type 0
 MovesRightly run rule me at stand (node, Row) = (next : Stand) × Goes run stand next × (node.at ≡ rule.part me next.at)
 MovesRightly run rule me at stand (node, Ended) = (ending : Ending) × (successor run stand.at stand.ports ≡ ends ending) × (node.ended ≡ Some ending)
 MovesRightly run rule me at stand (node, other) = node.at ≡ at
 
--- What a node did at its stand: it lists the facts that it made, commits its row or ends exactly where it then lacks none, and else stays.
+-- What a node does at its stand: it lists the facts that it made, and commits its row or ends exactly where it then lacks none.
+-- Otherwise it stays.
 pub record Works (run : Composition) (rule : Rule) (me : ℕ) (node : Progress) (stand : Stand) (did : Progress × Taken) : Type 0 where
   pub facts : did.0.facts ≡ node.facts ++ (making_of rule me node).facts
   pub answers : AnswersRightly run stand (making_of rule me node).known did.1
   pub row : ShowsRow run stand did
   pub moves : MovesRightly run rule me node.at stand did
 
--- A node that hasn't ended does so where it works.
+-- A node that hasn't ended does so when it works.
 abbrev pub WorkCommitsRightly : Type 0
 WorkCommitsRightly =
     (run : Composition) (rule : Rule) → IsRightRule run rule → (me : ℕ) (node : Progress) (keeps : KeepsTo run rule me node) → node.ended ≡ None
     → Works run rule me node keeps.stand (worked rule me node)
 
--- So it is with a fact that arrives and isn't dropped: the node, which knows it from then on, works.
+-- A node also does so when a fact arrives that isn't dropped: it knows the fact from then on, and works.
 abbrev pub TakeCommitsRightly : Type 0
 TakeCommitsRightly =
     (run : Composition) (rule : Rule) → IsRightRule run rule → (me : ℕ) (node : Progress) (fact : Fact) (keeps : KeepsTo run rule me node)
@@ -108,20 +109,20 @@ HonestFactsKeep =
 abbrev pub TrueFactsAreHonest : Type 0
 TrueFactsAreHonest = (run : Composition) (rule : Rule) → IsRightRule run rule → (fact : Fact) → IsTrueFact run fact → IsHonest run fact
 
--- The rule is right, for every ordered run and every split of its instances.
+-- The rule is right, for every ordered run and every division of its instances among the nodes.
 abbrev pub RulesAreRight : Type 0
 RulesAreRight = (run : Composition) (order owners : List ℕ) → IsPlaceOrder run order → AreMembers run → length owners ≡ length run.members
     → IsRightRule run (rule_of run owners)
 
--- Over every list of events, for every ordered run and every split of its instances, each fact is the true one of its row, and
--- each node stands at the place of its number.
+-- Over every list of events, for every ordered run and every division of its instances, each fact is the true one of its row, and
+-- each node is at the place of its number.
 abbrev pub PairsKeepToTheTrace : Type 0
 PairsKeepToTheTrace =
     (run : Composition) (order owners : List ℕ) → IsPlaceOrder run order → AreMembers run → length owners ≡ length run.members
     → (events : List PairEvent)
     → PairKeepsTo run (rule_of run owners) (after_events (rule_of run owners) (opened_pair (rule_of run owners) run) events)
 
--- One more pass makes no word.
+-- One more pass makes no further word.
 abbrev pub PassesAreEnough : Type 0
 PassesAreEnough =
     (run : Composition) (owners : List ℕ) (me : ℕ) (at : Position) (making : Making) → length making.known.words ≡ length (held run owners at.states)

@@ -1,4 +1,4 @@
--- What a node makes of what it knows, and where it moves.
+-- The facts that a node makes from what it knows, and where it moves.
 use Rattle.link_laws.specs.Boards.{Board, asked_of, entry, said_of, seen_of}
 use Rattle.link_laws.specs.Nodes.{End, Go, Making, Move, Rule, Stay, with_fact}
 use Rattle.link_laws.specs.Stages.{stage_of, word_end}
@@ -57,13 +57,13 @@ port_in _ = None
 abbrev pub ports_in : List (Option Seen) → Ports
 ports_in words = map port_in words
 
--- An output is known to have no word.
+-- An output is known to be without a word.
 abbrev pub is_undefined : Option Seen → Bool
 is_undefined (Some Undefined) = true
 is_undefined (Some (Faulted fault)) = true
 is_undefined _ = false
 
--- What an output is, where the words that are known determine it.
+-- The fact of an output, where the known words determine it.
 abbrev pub determined : List (Option Seen) → Outlet → Option Seen
 determined words outlet =
     if list_any (λ place. is_undefined (entry words place)) (places_needed outlet.standing.0 outlet.output) then Some Undefined
@@ -71,7 +71,7 @@ determined words outlet =
 
 -- ---- Making facts
 
--- A fact that is made is known from then on, and listed.
+-- A fact that is made becomes known and is listed.
 abbrev pub with_made : Fact → Making → Making
 with_made fact making = record { known = with_fact making.known fact; facts = making.facts ++ fact ∷ [] }
 
@@ -101,7 +101,7 @@ with_limit me at ports making (instance, (owner, standing)) =
     if (owner == me) && is_none (entry making.known.limits instance)
     then with_made (Limit at.number instance (asked_of (max_at at.point.t ports standing))) making else making
 
--- What is known of a step in the trial, or of one that is made anew.
+-- What is known of a step in the trial or in the redo.
 abbrev pub said_entry : Bool → Board → ℕ → Option Said
 said_entry redo known instance = if redo then entry known.redos instance else entry known.replies instance
 
@@ -141,7 +141,7 @@ replies_made run owners me at making = replies_by run owners me at (stage_at run
 abbrev pub redos_made : Composition → List ℕ → ℕ → Position → Making → Making
 redos_made run owners me at making = redos_by run owners me at (stage_at run at making.known) making
 
--- All that a node makes of what it knows: the words, then the limits, the replies, and those of a step made anew.
+-- All facts that a node makes from what it knows: the words, then the limits, the replies, and those of a redo.
 abbrev pub made : Composition → List ℕ → ℕ → Position → Board → Making
 made run owners me at known =
     redos_made run owners me at (replies_made run owners me at
@@ -178,11 +178,11 @@ is_own run owners me (Word row place seen) = is_held_by me (option_map (λ one. 
 is_own run owners me (Limit row instance asked) = is_held_by me (slice_get owners instance)
 is_own run owners me (Reply row instance redo said) = is_held_by me (slice_get owners instance)
 
--- The row, where all words are known. One with a fault of an output has none.
+-- The row, where all words are known. It has no row where an output has a fault.
 abbrev pub row_shown : Composition → Position → Board → Option TraceRow
 row_shown run at known = row_unless (first_some (map word_end (zip (names_of run) known.words))) at.point (ports_in known.words)
 
--- Of a run, and the owner of each instance.
+-- The rule of a run and the owner of each instance.
 abbrev pub rule_of : Composition → List ℕ → Rule
 rule_of run owners = record {
   make = made run owners;

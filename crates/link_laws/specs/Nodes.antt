@@ -1,4 +1,4 @@
--- Nodes: what each call makes of one, over what it makes of what it knows.
+-- Nodes: the effect of each call, given the facts that a node makes.
 use Rattle.link_laws.specs.Boards.{Board, entry, row_of}
 use Rattle.link_laws.specs.declared.fact.Fact.{Fact}
 use Rattle.link_laws.specs.declared.fact.Fact.TheVariants.{Limit, Reply, Word}
@@ -10,20 +10,21 @@ use Rattle.unit_tree.specs.Successor.{Position}
 use Rattle.unit_tree.specs.Trace.{Row as TraceRow}
 use Rattle.unit_tree.specs.declared.ending.Ending.{Ending}
 
--- What a node knows after it made facts, and these in their order.
+-- What a node knows after it made facts, and these facts in their order.
 pub record Making : Type 0 where
   pub known : Board
   pub facts : List Fact
 
--- Where a node goes from what it knows.
+-- Where a node moves from what it knows.
 pub data Move : Type 0 where
   Stay : Move
   Go : Position → Move
   End : Ending → Move
 
--- What node 0 or 1 makes and where it moves, by its part of a position and what it knows; its part of a position, that is the
--- states of its own instances; nothing known; whether a fact is of an instance of its own; and
--- the row of a position where all words are known.
+-- The rule of both nodes, by their numbers 0 and 1:
+-- `make` and `move` have the facts that a node makes and where it moves, by its part of a position and what it knows.
+-- `part` has its part of a position: the states of its own instances. `nothing` is the board without knowledge.
+-- `is_of` says whether a fact is of an instance of its own. `shown` has the row of a position where all words are known.
 pub record Rule : Type 0 where
   pub make : ℕ → Position → Board → Making
   pub move : ℕ → Position → Board → Move
@@ -32,8 +33,8 @@ pub record Rule : Type 0 where
   pub is_of : ℕ → Fact → Bool
   pub shown : Position → Board → Option TraceRow
 
--- How far a node is: its part of the position where it stands, what it knows of the row there, how the trace ended there, where it
--- has ended; its part of the position that it kept; all facts that it made, in their order; and the row that it came to last.
+-- The progress of a node: its part of its present position, what it knows of the row there, how the trace ended there, if it did, and its
+-- part of the saved position. It has all facts that it made, in their order, and the row that it came to last.
 pub record Progress : Type 0 where
   pub at : Position
   pub known : Board

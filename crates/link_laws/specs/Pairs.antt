@@ -1,4 +1,4 @@
--- Pairs of nodes, and what events make of them.
+-- Pairs of nodes, and the effect of events.
 use Rattle.link_laws.specs.Nodes.{Progress, Rule, keeping, opened, restarted, taken, worked}
 use Rattle.link_laws.specs.declared.fact.Fact.{Fact}
 use Rattle.link_laws.specs.declared.pair_event.PairEvent.{PairEvent}
@@ -14,12 +14,12 @@ pub record Pair : Type 0 where
   pub first : Progress
   pub second : Progress
 
--- A fact that arrives, where there is one.
+-- The effect of a fact that arrives, where there is one.
 abbrev pub delivered : Rule → ℕ → Progress → Option Fact → Progress × Taken
 delivered rule me node None = (node, Dropped)
 delivered rule me node (Some fact) = taken rule me node fact
 
--- What happens to a node beside the other.
+-- The effect of an event on one node, given the other.
 abbrev pub happened : Rule → ℕ → Progress → Progress → PairEvent → Progress × Taken
 happened rule me node other (Work at) = worked rule me node
 happened rule me node other (Deliver at place) = delivered rule me node (slice_get other.facts place)
@@ -40,7 +40,7 @@ step_of_node rule pair (suc zero) event =
     (record pair { second = (happened rule 1 pair.second pair.first event).0 }, (happened rule 1 pair.second pair.first event).1)
 step_of_node rule pair (suc (suc node)) event = (pair, Dropped)
 
--- What an event makes of a pair, and its answer. Where there is no such node or fact, nothing happens.
+-- The effect of an event on a pair, and its result. Where there is no such node or fact, nothing happens.
 abbrev pub event_step : Rule → Pair → PairEvent → Pair × Taken
 event_step rule pair event = step_of_node rule pair (node_of event) event
 

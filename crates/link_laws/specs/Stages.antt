@@ -1,4 +1,4 @@
--- Stages of a row: what is asked for next, by what is known.
+-- Stages of a row: what it requires next, by what is known.
 use Rattle.fixed_words.specs.declared.types.Fault.{Fault}
 use Rattle.link_laws.specs.Boards.{Board}
 use Rattle.link_laws.specs.declared.fact.Asked.{Asked}
@@ -43,7 +43,7 @@ is_answered t h (member, said) = if is_held member.factor t h then true else is_
 abbrev pub are_answered : ℕ → ℕ → List Member → List (Option Said) → Bool
 are_answered t h members replies = list_all (is_answered t h) (zip members replies)
 
--- ---- Limits and words, by what is told
+-- ---- Limits and words, by facts
 
 abbrev pub max_by : Option Asked → Result (Option ℕ) Fault
 max_by None = Ok None
@@ -90,7 +90,7 @@ stage_of_limits run at board =
     (filter_map (limit_in at.point.t) (zip run.members board.limits))))
     else Limits
 
--- The names are the instance of each output and its number there, by places.
+-- `names` has the instance of each output and its number there, by places.
 abbrev pub stage_of : Composition → List (ℕ × ℕ) → Position → Board → Stage
 stage_of run names at board =
     if list_all is_some board.words

@@ -7,20 +7,20 @@ pub fn facts_are_functional()
     ensures { FactsAreFunctional }
 {}
 
-/// A law: where what is known agrees with the facts of a stand, the stage that it gives is the right one. The row is committed, or
-/// ends the run, exactly where no fact is lacking, and it goes where the successor leads.
+/// A law: where what is known agrees with the facts of a stand, it determines the right stage. The row is committed, or ends the run,
+/// exactly where no fact is missing, and the next position is that of the successor.
 pub fn stages_are_right()
     ensures { StagesAreRight }
 {}
 
-/// A law: what a node makes of what it knows is true, and it moves where the successor leads.
+/// A law: the facts that a node makes from what it knows are true, and it moves as the successor does.
 pub fn rules_are_right()
     ensures { RulesAreRight }
 {}
 
-/// A law: over every list of events each fact is the true one of its row, and each node stands at the place of its number. A node that
-/// works, or takes a fact that isn't dropped, commits or ends exactly where it then lacks no fact of its row: it goes on to its part of
-/// the next position, has the run's end, or stays. Told of any rule that is right, and of that of a run.
+/// A law: over every list of events each fact is the true one of its row, and each node is at the place of its number. A node works, or
+/// takes a fact that isn't dropped. Then it commits or ends exactly where it lacks no fact of its row: it goes on to its part of the
+/// next position, has the run's end, or stays. The law holds for any right rule, and for that of a run.
 pub fn events_keep()
     ensures keep { EventsKeep }
     ensures commit { WorkCommitsRightly }
@@ -35,8 +35,8 @@ pub fn passes_are_enough()
     ensures { PassesAreEnough }
 {}
 
-/// A law: each true fact of an ordered run whose bounds and types are those of a plan has a row below 100,000, and tells no length above
-/// the greatest word, where the words of parameters and the numbers of each `max` fit 64 bits, as those of every node's plan do.
+/// A law: take an ordered run with the bounds and types of a plan, whose words of parameters and numbers of each `max` fit 64 bits, as
+/// in every node's plan. Each true fact of it has a row below 100,000, and no length in it is above the greatest word.
 pub fn facts_are_short()
     ensures { FactsAreShort }
 {}

@@ -1,14 +1,20 @@
-//! Two nodes that run one system between them: the facts that they exchange, the events of a pair, and the laws over every list of
+//! Two nodes that run one system together: the facts that they exchange, the events of a pair, and the laws over every list of
 //! events. Definitions and laws, without code.
 //!
-//! A [`Fact`] says one item of a row: what an output is, how long a step an instance asks for, or what it made of a step. A [`Stage`] is
-//! what a row asks for next, by what is known of it. [`PairEvent`] is what happens to a node, and [`Taken`] what comes of it.
+//! A [`Fact`] is one item of a row: an output, a limit, or the result of a step. A [`Stage`] is what a row requires next, by what is
+//! known of it. [`PairEvent`] is an event of a node, and [`Taken`] the result of a call.
 //!
-//! Definitions: `specs/Boards.antt` (the facts of a position, and what is known beside what is so), `specs/Stages.antt` (what a row asks
-//! for next), `specs/Nodes.antt` (what each call makes of a node), `specs/Making.antt` (what a node makes of what it knows),
-//! `specs/Pairs.antt` (pairs and events), `specs/Keeping.antt` (what nodes keep), `specs/Lengths.antt` (which facts are short) and
-//! `specs/Laws.antt`: over every list of events each fact that is listed is the true one of its row, and each node has its part of the
-//! place of its number in the one trace, also after it started again.
+//! Definitions:
+//!
+//! - `specs/Boards.antt`: the facts of a position, and what is known of them
+//! - `specs/Stages.antt`: what a row requires next
+//! - `specs/Nodes.antt`: the effect of each call of a node
+//! - `specs/Making.antt`: the facts that a node makes from what it knows
+//! - `specs/Pairs.antt`: pairs and events
+//! - `specs/Keeping.antt`: the invariant of nodes
+//! - `specs/Lengths.antt`: which facts are short
+//! - `specs/Laws.antt`: over every list of events each listed fact is the true one of its row, and each node has its part of the place
+//!   of its number in the one trace, also after a restart
 #![tactic(auto)]
 
 mod fact;

@@ -1,11 +1,11 @@
-/// What a call of a node came to.
+/// The result of a call of a node.
 #[derive(Clone, Copy, Debug, PartialEq, Eq)]
 pub enum Taken {
-    /// Nothing was taken in.
+    /// Nothing changed.
     Dropped,
-    /// Facts of the row are still lacking.
+    /// Facts of the row are still missing.
     Kept,
-    /// No fact was lacking: the node went on to the next row.
+    /// No fact was missing: the node went on to the next row.
     Row,
     /// The trace has ended.
     Ended,

@@ -129,7 +129,7 @@ all_of run count stand stands end ending at is = by_later at.later at.is at.foll
 -- ---- From one call to the next
 
 module _ (plan : Planned) where
-  -- One stand more.
+  -- One more stand.
   lines_on : (node next : Progress) (stand : Stand) (stands : List Stand) → committed next stands ≡ committed node stands ++ stand ∷ []
       → lines_shown plan next stands ≡ lines_shown plan node stands ++ lines_of plan.system (cons_option (row_at plan.run stand) [])
   lines_on node next stand stands is =

@@ -38,7 +38,7 @@ exchange_up {B} exchange target next old new faults faults' fault result plan co
   comes = comes;
 }
 
--- The owners of a exchange's nodes are as many as its members.
+-- There are as many owners of an exchange's nodes as members.
 pub first_owned : (exchange : Exchange) → IsExchange exchange → length exchange.first.owners ≡ length exchange.plan.value.run.members
 first_owned exchange is = ap length is.first_owners ∙ as_many_owners (length exchange.plan.value.run.members)
 
@@ -62,7 +62,7 @@ same_exchange exchange next is plan first second first_noted second_noted empty 
       empty = empty;
     }
 
--- ---- One part behind another
+-- ---- One part after another
 
 -- The first was given up.
 pub exchange_short : (exchange : Exchange) (two three : Pair) (next : Exchange) (old new : Option (List ℕ)) (faults faults' : ℕ) (fault : CrewFault) (result : Done)
@@ -73,7 +73,7 @@ exchange_short exchange two three next old new faults faults' fault result first
     (comes_short exchange.plan.value exchange.first.progress two.first three.first next.first.progress next.first.progress old new faults faults' fault result
     first.comes later is) is
 
--- It came to the end.
+-- The exchange came to its end.
 pub pair_there : (exchange : Exchange) (two : Pair) (next : Exchange) (old new : Option (List ℕ)) (faults faults' : ℕ)
     → ExchangeComes {T = Unit {0}} exchange two next old new faults faults' (Ok tt) → pair_of next ≡ two
 pair_there exchange two next old new faults faults' first = ap₂ (λ (a b : Progress). record { first = a; second = b }) first.comes.there first.second
@@ -235,7 +235,7 @@ module _ (exchange one two three : Exchange) (seed k : ℕ) (held0 held1 held2 h
   works_short fault result first is = exchange_short exchange A D one held0 held1 faults0 faults1 fault result first
       (told_later exchange.plan.value.run (by_turns (length exchange.plan.value.run.members)) seed k A) is
 
-  -- What the next part is of, by where the one before came to.
+  -- The pair of the next part, from where the part before ended.
   next_first : (mid : Exchange) (pair : Pair) (held held' : Option (List ℕ)) (faults faults' : ℕ)
       → ExchangeComes {T = Unit {0}} exchange pair mid held held' faults faults' (Ok tt) → to_first (exchange_rule mid) seed k (pair_of mid) ≡ to_first rule seed k pair
   next_first mid pair held held' faults faults' so =

@@ -1,4 +1,4 @@
--- Node 0 only goes on: its number never falls, and it stays where it ended. So what it shows begins what it shows later.
+-- Node 0 only goes on: its number never falls, and it stays where it ended. So what it shows is a prefix of what it shows later.
 use Rattle.std.proofs.Common.{◌≡◌, ◌∙◌, ℕ, zero, suc, ◌≤◌, Bool, true, false, is_some, List, [], ◌∷◌, ◌++◌, take, Option, Some, None, refl, sym, ap}
 use Rattle.std.proofs.Common.{arith, append-nil}
 use Rattle.std.proofs.lemmas.List.Elements.{filter_map-append}
@@ -28,7 +28,7 @@ same_later node = record { number = omega arith; ended = λ is. is }
 pub later_still : (one two three : Progress) → IsLater one two → IsLater two three → IsLater one three
 later_still one two three first second = record { number = omega (arith, first.number, second.number); ended = λ is. second.ended (first.ended is) }
 
--- ---- What a call makes of it
+-- ---- The effect of a call
 
 module _ (run : Composition) (owners : List ℕ) (me : ℕ) where
   moved_later : (node : Progress) (known : Board) (move : Move) → (rule_of run owners).move me node.at known ≡ move

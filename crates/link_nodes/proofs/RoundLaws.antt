@@ -1,4 +1,4 @@
--- Rounds keep what a pair keeps.
+-- Rounds keep the invariant of a pair.
 use Rattle.std.proofs.Common.{ℕ, zero, suc, [], ◌∷◌}
 use Rattle.link_laws.specs.Keeping.{IsRightRule, PairKeepsTo}
 use Rattle.link_laws.specs.Making.{rule_of}

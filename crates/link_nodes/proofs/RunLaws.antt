@@ -19,7 +19,7 @@ use Rattle.trace_rows.specs.declared.fault.CrewFault.{CrewFault}
 use Rattle.trace_rows.proofs.RowLaws.{no_lines}
 use Rattle.unit_tree.specs.Trace.{Stand}
 
--- Nothing was put, or a front of the header.
+-- Nothing was written, or a prefix of the header.
 pub begins_none : (plan : Planned) (seed rounds : ℕ) (held : Option (List ℕ)) → BeginsRounds plan seed rounds held held
 begins_none plan seed rounds held = record {
   begins = λ stands ending trace. AppendsPrefix-nil held

@@ -45,7 +45,7 @@ module _ (seed k row : ℕ) (facts : List Fact) where
       numbered_past (fact ∷ all) from (suc place) most = numbered_past all (from + 1) place (omega (arith, most))
 
   module _ (first end : ℕ) (others : AreOfOtherRows facts row first end) where
-    -- One of another row leaves what is left.
+    -- A fact of another row leaves the others as they are.
     skipped : (place : ℕ) → (place < first) ⊎ (end ≤ place) → left place ≡ left (suc place)
     skipped place outside = by_found (slice_get facts place) refl
       where

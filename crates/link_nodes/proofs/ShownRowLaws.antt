@@ -1,4 +1,4 @@
--- What is put on the way, call by call.
+-- What is written, call by call.
 use Rattle.std.proofs.Common.{◌≡◌, ◌∙◌, ℕ, Bool, true, false, not, is_none, is_some, List, [], ◌++◌, length, Option, Some, None, Result}
 use Rattle.std.proofs.Common.{Ok, Err, refl, sym, ap, ap₂, subst, arith, append-nil, append_assoc}
 use Rattle.std.specs.Prelude.{OnOk, OnErr, if◌then◌else◌}
@@ -42,7 +42,7 @@ tells_as A B faults faults' fault tells = record {
 pub tells_dry : (B : Type 0) (faults faults' : ℕ) → faults' ≡ faults → TellsFault {T = B} faults faults' (Err NoMemory)
 tells_dry B faults faults' same = record { later = omega (arith, same); failed = λ e. absurd (cc); same = λ other. same }
 
--- What `is_none` tells.
+-- The consequence of `is_none`.
 pub going_told : (found ended : Option Ending) (going : Bool) → is_some found ≡ not going → found ≡ ended → going ≡ is_none ended
 going_told found None true told is = refl
 going_told found None false told is = absurd (let same = ap is_some is in cc (told, same))
@@ -87,7 +87,7 @@ module _ (plan : Planned) where
         };
   }
 
-  -- Nothing was put before the call was given up.
+  -- Nothing was written before the call was given up.
   pub none_past : (node target : Progress) (held : Option (List ℕ)) → IsLater node target → ShowsPast plan node target held held
   none_past node target held later = record {
     grows = λ stands ending trace.
@@ -95,7 +95,7 @@ module _ (plan : Planned) where
         record { piece = more.0; is = more.1; put = AppendsPrefix-nil held more.0 };
   }
 
-  -- What begins what is shown begins what is shown later.
+  -- A prefix of what is shown is a prefix of what is shown later.
   pub past_later : (node target beyond : Progress) (old new : Option (List ℕ)) → ShowsPast plan node target old new → IsLater target beyond
       → ShowsPast plan node beyond old new
   past_later node target beyond old new past later = record {
@@ -111,7 +111,7 @@ module _ (plan : Planned) where
 
   -- ---- Calls
 
-  -- One that put the row that it came to.
+  -- A call that wrote the row to which it came.
   pub comes_once : (node target : Progress) (rows : List TraceRow) (old new : Option (List ℕ)) (faults faults' : ℕ) (result : Done)
       → ((stands : List Stand) (ending : Ending) → IsTrace plan.run stands ending
       → lines_shown plan target stands ≡ lines_shown plan node stands ++ lines_of plan.system rows)
@@ -131,14 +131,14 @@ module _ (plan : Planned) where
     cause = cause;
   }
 
-  -- One that was given up.
+  -- A call that was given up.
   pub comes_up : {A : Type 0} (node target next : Progress) (old new : Option (List ℕ)) (faults faults' : ℕ) (fault : CrewFault) (result : Result A CrewFault)
       → ShowsPast plan node target old new
       → TellsFault {T = A} faults faults' (Err fault) → result ≡ Err fault → ComesTo plan node target next old new faults faults' result
   comes_up node target next old new faults faults' fault result past cause is =
       subst (ComesTo plan node target next old new faults faults') (sym is) (record { there = tt; shown = tt; past = past; cause = cause })
 
-  -- One behind another.
+  -- One call after another.
   pub comes_on : (one two two' three three' next : Progress) (held0 held1 held2 : Option (List ℕ)) (faults0 faults1 faults2 : ℕ) (result : Done)
       → ComesTo {T = Unit {0}} plan one two two' held0 held1 faults0 faults1 (Ok tt) → ComesTo plan two' three' next held1 held2 faults1 faults2 result
       → three' ≡ three
@@ -173,7 +173,7 @@ module _ (plan : Planned) where
       comes_up one three next old new faults faults' fault result (past_later one two three old new first.past later)
       (tells_as A B faults faults' fault first.cause) is
 
-  -- There was no memory behind it.
+  -- After it memory was refused.
   pub comes_dry : {B : Type 0} (one two two' three next : Progress) (old new : Option (List ℕ)) (faults faults' : ℕ) (result : Result B CrewFault)
       → ComesTo {T = Unit {0}} plan one two two' old new faults faults' (Ok tt) → IsLater two three → result ≡ Err NoMemory
       → ComesTo plan one three next old new faults faults' result
@@ -181,7 +181,7 @@ module _ (plan : Planned) where
       comes_up one three next old new faults faults' NoMemory result (shows_past one two three old new new first.shown (none_past two three new later))
       (tells_dry B faults faults' (first.cause.same (λ e. absurd (cc)))) is
 
-  -- None yet.
+  -- No call yet.
   pub comes_none : (node : Progress) (held : Option (List ℕ)) (faults : ℕ) → ComesTo {T = Unit {0}} plan node node node held held faults faults (Ok tt)
   comes_none node held faults = record {
     there = refl;
@@ -239,7 +239,7 @@ module _ (plan : Planned) where
   comes_not {B} node target next held faults result later is =
       comes_up node target next held held faults faults NoMemory result (none_past node target held later) (tells_dry B faults faults refl) is
 
-  -- A call behind others was given up.
+  -- A call after others was given up.
   pub part_up : (start now one target next : Progress) (held0 held1 held2 : Option (List ℕ)) (faults0 faults1 faults2 : ℕ) (fault : CrewFault) (result : Done)
       → ComesTo {T = Unit {0}} plan start now now held0 held1 faults0 faults1 (Ok tt)
       → ComesTo {T = Unit {0}} plan now one next held1 held2 faults1 faults2 (Err fault) → IsLater one target → result ≡ Err fault
@@ -248,13 +248,13 @@ module _ (plan : Planned) where
       comes_short start one target next next held0 held2 faults0 faults2 fault result
       (comes_on start now now one one next held0 held1 held2 faults0 faults1 faults2 (Err fault) first second refl) later is
 
-  -- Where it came to.
+  -- The row to which it came.
   pub comes_there : (node next target : Progress) (old new : Option (List ℕ)) (faults faults' : ℕ)
       → ComesTo {T = Unit {0}} plan node target next old new faults faults' (Ok tt) → ComesTo {T = Unit {0}} plan node next next old new faults faults' (Ok tt)
   comes_there node next target old new faults faults' so =
       subst (λ to. ComesTo {T = Unit {0}} plan node to next old new faults faults' (Ok tt)) (sym so.there) so
 
-  -- ---- No row to be put
+  -- ---- No row to be written
 
   nothing_put : (rows : List TraceRow) (held : Option (List ℕ)) → rows ≡ [] → Appends held held (lines_of plan.system rows)
   nothing_put rows held none = subst (Appends held held) (sym (ap (lines_of plan.system) none ∙ no_lines plan.system)) (Appends-nil held)

@@ -16,7 +16,7 @@ use Rattle.list_laws.proofs.Members.{at_front, each_has, has_at, set_elsewhere, 
 abbrev IsIn : ℕ → Span → Type 0
 IsIn most span = (span.first ≤ most) × (span.end ≤ most)
 
--- A span without places more.
+-- A span with no further places.
 pub grown : (rows : List Span) (one : Span) (facts : List Fact) → one.first ≤ length facts → one.end ≤ length facts → AreNoted rows facts
     → AreNoted (rows ++ one ∷ []) facts
 grown rows one facts first end are = record {
@@ -24,14 +24,14 @@ grown rows one facts first end are = record {
   within = each_more (IsIn (length facts)) rows one are.within (first, end);
 }
 
--- ---- One fact more
+-- ---- One more fact
 
 each_set : {A : Type 0} (P : A → Type 0) (xs : List A) (k : ℕ) (x : A) → AllByRecursion P xs → P x → AllByRecursion P (set xs k x)
 each_set P [] k x are one = tt
 each_set P (y ∷ xs) zero x are one = (one, are.1)
 each_set P (y ∷ xs) (suc k) x are one = (are.0, each_set P xs k x are.1 one)
 
--- What stands in a list with one more, at a place.
+-- The element at a place of a list with one more.
 stands_by : (facts : List Fact) (fact : Fact) (place : ℕ) (found : Fact) → slice_get (facts ++ fact ∷ []) place ≡ Some found
     → (slice_get facts place ≡ Some found) ⊎ ((place ≡ length facts) × (found ≡ fact))
 stands_by [] fact zero found is = inr (refl, sym (same_Some fact found is))
@@ -131,7 +131,7 @@ take_length zero xs most = refl
 take_length (suc n) [] most = absurd (omega (arith, most))
 take_length (suc n) (x ∷ xs) most = let rest = take_length n xs (omega (arith, most)) in omega (arith, rest)
 
--- With one more.
+-- With one more fact.
 pub noted_more : (rows : List Span) (facts : List Fact) (place : ℕ) (fact : Fact) → slice_get facts place ≡ Some fact
     → AreNoted rows (take place facts ++ fact ∷ [])
     → AreNoted rows (take (place + 1) facts)

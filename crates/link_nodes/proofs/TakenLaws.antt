@@ -1,4 +1,4 @@
--- Facts that are taken from the last one on.
+-- Facts that are taken, beginning with the last one.
 use Rattle.std.proofs.Common.{◌≡◌, ◌∙◌, ℕ, List, [], ◌∷◌, ◌++◌, ap, ap₂, subst}
 use Rattle.std.proofs.lemmas.List.{reverse-append}
 use Rattle.std.specs.Prelude.{reverse}
@@ -22,7 +22,7 @@ pub front_each : (P : Fact → Type 0) (transit front : List Fact) (last : Fact)
     → AllByRecursion P front × P last
 front_each P transit front last is are = let parts = each_part P front (last ∷ []) (subst (AllByRecursion P) is are) in (parts.0, parts.1.0)
 
--- What a node made of a fact, of the plan's own rule.
+-- The effect of a fact on a node, by the plan's own rule.
 pub second_taken : (plan : Planned) (owners : List ℕ) (me : ℕ) (node : NodeState) (fact : Fact) → node.plan ≡ plan → node.owners ≡ owners → node.me ≡ me
     → (next : Progress) (came : Taken)
     → (next, came) ≡ taken (rule_of node.plan.run node.owners) node.me node.progress fact → next ≡ (taken (rule_of plan.run owners) me node.progress fact).0

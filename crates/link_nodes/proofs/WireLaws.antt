@@ -148,7 +148,7 @@ told_is false told fact is = absurd (cc)
 bytes_are : (xs ys : List ℕ) → bytes_eq xs ys ≡ true → xs ≡ ys
 bytes_are xs ys same = grind (arith, bytes_eq-Decides)
 
--- What is told is encoded by the bytes.
+-- The fact that is read is encoded by the bytes.
 pub record Tells (bytes : List ℕ) (fact : Fact) : Type 0 where
   pub written : bytes ≡ encoding fact
   pub short : is_short fact ≡ true

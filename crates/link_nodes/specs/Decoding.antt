@@ -1,4 +1,4 @@
--- How bytes are decoded, which need not be believed: they are read whatever they are, written again, and compared.
+-- How bytes are decoded: they are read, valid or not, written again, and compared. No promise depends on this.
 use Rattle.std.specs.Prelude.{ℕ, ◌==◌, ◌^◌, ◌<◌, Bool, true, false, ◌&&◌, ℤ, unsigned_abs, List, take, drop, slice_index_or, if◌then◌else◌, Option}
 use Rattle.std.specs.Prelude.{Some, None, ⊤}
 use Rattle.std.specs.Int.{w32, w64, from_be_bytes, cast_signed}
@@ -17,7 +17,7 @@ use Rattle.link_laws.specs.Lengths.{is_short}
 use Rattle.link_nodes.specs.Wire.{encoding}
 use Rattle.link_nodes.specs.declared.fields.Fields.{Fields}
 
--- What fields may tell, read without a test.
+-- The fact of any fields, read without a test.
 abbrev pub fault_tagged : ℕ → Fault
 fault_tagged tag = if tag == 1 then Overflow else (if tag == 2 then Range else (if tag == 3 then ZeroDivisor else (if tag == 4 then Accept else Max)))
 

@@ -1,4 +1,4 @@
--- Both nodes of a plan at work. None of it need be believed.
+-- Both nodes of a plan at work. No promise depends on these definitions.
 use Rattle.std.specs.Prelude.{◌≡◌, ℕ, List, [], length, Option, Result, OnOk}
 use Rattle.link_laws.specs.Making.{rule_of}
 use Rattle.link_laws.specs.Nodes.{Rule, by_turns}
@@ -9,7 +9,7 @@ use Rattle.trace_plan.specs.Plans.{Planned}
 use Rattle.trace_rows.specs.declared.fault.CrewFault.{CrewFault}
 use Rattle.unit_tree.specs.Compositions.{Composition}
 
--- They are the nodes 0 and 1 of the plan, whose instances are owned by turns; their facts were noted as far as their spans say; and no
+-- They are the nodes 0 and 1 of the plan, and own its instances by turns. Their facts were noted as far as their spans say, and no
 -- fact is on its way.
 pub record IsExchange (exchange : Exchange) : Type 0 where
   pub first_plan : exchange.first.plan ≡ exchange.plan.value
@@ -31,7 +31,7 @@ rule_by_turns run = rule_of run (by_turns (length run.members))
 abbrev pub exchange_rule : Exchange → Rule
 exchange_rule exchange = rule_by_turns exchange.plan.value.run
 
--- The pair came to where it was to come, and what node 0 shows grew by what was put; or the call was given up on the way.
+-- The pair came to its target, and what node 0 shows grew by what was written; or the call was given up on the way.
 pub record ExchangeComes {T : Type 0} (exchange : Exchange) (target : Pair) (next : Exchange) (old new : Option (List ℕ)) (faults faults' : ℕ)
     (result : Result T CrewFault) : Type 0 where
   pub plan : next.plan.value ≡ exchange.plan.value

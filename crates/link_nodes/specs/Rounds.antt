@@ -19,22 +19,22 @@ is_sent seed k row (place, fact) = (row_of fact == row) && not ((place + k + see
 abbrev pub numbered_sent : ℕ → ℕ → ℕ → List Fact → List (ℕ × Fact)
 numbered_sent seed k row facts = filter (is_sent seed k row) (enumerate_from 0 facts)
 
--- What arrives at a node of the facts at these places: from the last to the first, each twice.
+-- The arrivals at a node of the facts at these places: from the last to the first, each twice.
 abbrev pub arrivals : ℕ → List (ℕ × Fact) → List PairEvent
 arrivals node numbered = flat_map (λ one. Deliver node one.0 ∷ Deliver node one.0 ∷ []) (reverse numbered)
 
--- Facts of the row where the node stands as its part begins arrive there.
+-- Facts arrive at a node that are of its row at the beginning of this part.
 abbrev pub to_first : Rule → ℕ → ℕ → Pair → Pair
 to_first rule seed k pair = after_events rule pair (arrivals 0 (numbered_sent seed k pair.first.at.number pair.second.facts))
 
 abbrev pub to_second : Rule → ℕ → ℕ → Pair → Pair
 to_second rule seed k pair = after_events rule pair (arrivals 1 (numbered_sent seed k pair.second.at.number pair.first.facts))
 
--- Node 1 keeps its position in each fifth round, and starts again in each eighth.
+-- Node 1 saves its position in each fifth round, and starts again in each eighth.
 abbrev pub closing_events : ℕ → List PairEvent
 closing_events k = (if k % 5 == 0 then Keep 1 ∷ [] else []) ++ (if k % 8 == 0 then Restart 1 ∷ [] else [])
 
--- Both work; then facts arrive at the first and at the second.
+-- Both nodes work. Then facts arrive at the first and at the second.
 abbrev pub after_round : Rule → ℕ → ℕ → Pair → Pair
 after_round rule seed k pair =
     after_events rule (to_second rule seed k (to_first rule seed k (after_events rule pair (Work 0 ∷ Work 1 ∷ [])))) (closing_events k)
@@ -44,7 +44,7 @@ abbrev pub after_rounds : Rule → ℕ → ℕ → Pair → Pair
 after_rounds rule seed zero pair = pair
 after_rounds rule seed (suc k) pair = after_round rule seed (suc k) (after_rounds rule seed k pair)
 
--- The pair after so many rounds of a run, whose instances are owned by turns.
+-- The pair after so many rounds of a run. The nodes own its instances by turns.
 abbrev pub pair_after : Composition → ℕ → ℕ → Pair
 pair_after run seed count = after_rounds (rule_of run (by_turns (length run.members))) seed count
     (opened_pair (rule_of run (by_turns (length run.members))) run)

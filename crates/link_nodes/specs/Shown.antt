@@ -19,12 +19,12 @@ committed node stands = if is_some node.ended then stands else take node.at.numb
 abbrev pub lines_shown : Planned → Progress → List Stand → List ℕ
 lines_shown plan node stands = lines_of plan.system (rows_of plan.run (committed node stands))
 
--- What is told of a pair.
+-- The progress of a pair.
 abbrev pub told_of : Pair → Nodes
 told_of pair = record { first = pair.first.at.number; second = pair.second.at.number; last = pair.first.at.point; outcome = pair.first.ended }
 
--- The header and the lines of the rows that node 0 has committed after the rounds, of the one trace, were put; and how far both nodes
--- are is told.
+-- The header and the lines of the rows that node 0 has committed after the rounds, of the one trace, were written, and the progress
+-- of both nodes was returned.
 pub record ShowsRounds (plan : Planned) (seed rounds : ℕ) (old new : Option (List ℕ)) (nodes : Nodes) : Type 0 where
   pub stands : List Stand
   pub ending : Ending
@@ -32,7 +32,7 @@ pub record ShowsRounds (plan : Planned) (seed rounds : ℕ) (old new : Option (L
   pub out : Appends old new (header_of plan.system ++ lines_shown plan (pair_after plan.run seed rounds).first stands)
   pub told : nodes ≡ told_of (pair_after plan.run seed rounds)
 
--- What was put begins these.
+-- What was written is a prefix of this.
 pub record BeginsRounds (plan : Planned) (seed rounds : ℕ) (old new : Option (List ℕ)) : Type 0 where
   pub begins : (stands : List Stand) (ending : Ending) → IsTrace plan.run stands ending
       → AppendsPrefix old new (header_of plan.system ++ lines_shown plan (pair_after plan.run seed rounds).first stands)

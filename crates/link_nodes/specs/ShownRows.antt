@@ -1,4 +1,4 @@
--- What is put on the way from one call of node 0 to the next. None of it need be believed.
+-- What is written from one call of node 0 to the next. No promise depends on these definitions.
 use Rattle.std.specs.Prelude.{◌≡◌, ◌≤◌, ◌<◌, ◌==◌, ◌⊎◌, ℕ, Bool, true, false, List, [], ◌∷◌, ◌++◌, slice_get, if◌then◌else◌, Option, Some, Result, OnOk, OnErr}
 use Rattle.std.specs.Prelude.{length, take}
 use Rattle.std.specs.List.{AllByRecursion, cons_option}
@@ -30,11 +30,11 @@ pub record IsJudged (plan : Planned) : Type 0 where
   pub members : AreMembers plan.run
   pub rows : HasRows plan.system
 
--- A row that a node lends.
+-- A lent row of a node, as a row.
 abbrev pub row_told : lent.Row → TraceRow
 row_told row = record { point = row.point; words = row.words.now }
 
--- A node came to a row in a call: to a new one, or it ended just now.
+-- A node came to a row in a call: to a new one, or it has just ended.
 abbrev pub comes : Bool → Taken → Bool
 comes going Row = true
 comes going Ended = going
@@ -44,19 +44,19 @@ comes going other = false
 abbrev pub rows_come_to : Bool → Progress × Taken → List TraceRow
 rows_come_to going did = if comes going did.1 then cons_option did.0.row [] else []
 
--- A text grew by what was put.
+-- A text grew by what was written.
 pub record Grows (text more : List ℕ) (old new : Option (List ℕ)) : Type 0 where
   pub piece : List ℕ
   pub is : more ≡ text ++ piece
   pub put : Appends old new piece
 
--- It grew by a piece that what was put begins.
+-- A text grew by a piece, and what was written is a prefix of this piece.
 pub record GrowsPast (text more : List ℕ) (old new : Option (List ℕ)) : Type 0 where
   pub piece : List ℕ
   pub is : more ≡ text ++ piece
   pub put : AppendsPrefix old new piece
 
--- What node 0 shows grew so, whatever the trace is.
+-- What node 0 shows grew in this way, for each trace.
 pub record Shows (plan : Planned) (node next : Progress) (old new : Option (List ℕ)) : Type 0 where
   pub grows : (stands : List Stand) (ending : Ending) → IsTrace plan.run stands ending
       → Grows (lines_shown plan node stands) (lines_shown plan next stands) old new
@@ -65,7 +65,7 @@ pub record ShowsPast (plan : Planned) (node next : Progress) (old new : Option (
   pub grows : (stands : List Stand) (ending : Ending) → IsTrace plan.run stands ending
       → GrowsPast (lines_shown plan node stands) (lines_shown plan next stands) old new
 
--- Node 0 came to where it was to come, and what it shows grew by what was put; or the call was given up on the way.
+-- Node 0 came to its target, and what it shows grew by what was written; or the call was given up on the way.
 pub record ComesTo {T : Type 0} (plan : Planned) (node target next : Progress) (old new : Option (List ℕ)) (faults faults' : ℕ)
     (result : Result T CrewFault) : Type 0 where
   pub there : OnOk result (next ≡ target)
@@ -73,7 +73,7 @@ pub record ComesTo {T : Type 0} (plan : Planned) (node target next : Progress) (
   pub past : OnErr result (ShowsPast plan node target old new)
   pub cause : TellsFault faults faults' result
 
--- ---- What arrives
+-- ---- Arrivals
 
 -- A node takes each fact twice.
 abbrev pub taken_twice : Rule → ℕ → Progress → Fact → Progress
@@ -88,13 +88,13 @@ abbrev pub AreOfOtherRows : List Fact → ℕ → ℕ → ℕ → Type 0
 AreOfOtherRows facts row first end = (place : ℕ) (fact : Fact) → slice_get facts place ≡ Some fact → (place < first) ⊎ (end ≤ place)
     → (row_of fact == row) ≡ false
 
--- Facts stand in the spans of their rows, of which each is among them.
+-- Each fact is in the span of its row, and each span is within the list.
 pub record AreNoted (rows : List Span) (facts : List Fact) : Type 0 where
   pub each : (place : ℕ) (fact : Fact) → slice_get facts place ≡ Some fact
       → (span : Span) × (slice_get rows (row_of fact) ≡ Some span) × (span.first ≤ place) × (place < span.end)
   pub within : AllByRecursion (λ span. (span.first ≤ length facts) × (span.end ≤ length facts)) rows
 
--- Those that were noted, of a list that may have grown since.
+-- The noted facts of a list, which may have grown since.
 pub record IsNoted (spans : Spans) (facts : List Fact) : Type 0 where
   pub within : spans.noted ≤ length facts
   pub noted : AreNoted spans.rows.items (take spans.noted facts)

@@ -1,4 +1,4 @@
--- Facts as bytes: 22, all fields big-endian. A fact can be encoded where it is short (`is_short` of link_core).
+-- Facts as bytes: 22, all fields big-endian. A fact can be encoded where it is short (`is_short` of link_laws).
 use Rattle.std.specs.Prelude.{ℕ, ◌<◌, ◌^◌, true, false, pos, List, ◌∷◌, ◌++◌, FitsSigned}
 use Rattle.std.specs.Int.{w32, w64, to_be_bytes, cast_unsigned}
 use Rattle.fixed_words.specs.declared.types.Fault.{Fault}
@@ -18,7 +18,7 @@ tag_of ZeroDivisor = 3
 tag_of Accept = 4
 tag_of Max = 5
 
--- The fields of a fact. A tag of 0 tells a number, 6 that an output is undefined, and 7 that there is no limit.
+-- The fields of a fact. With the tag 0 they have a number; 6 says that an output is undefined, and 7 that there is no limit.
 abbrev pub fields_of : Fact → Fields
 fields_of (Word row place (seen.Is word)) = record { kind = 1; row = row; place = place; tag = 0; number = word }
 fields_of (Word row place (seen.Fault fault)) = record { kind = 1; row = row; place = place; tag = tag_of fault; number = pos 0 }
@@ -39,7 +39,7 @@ written f = f.kind ∷ (to_be_bytes w64 f.row ++ (to_be_bytes w32 f.place ++ (f.
 abbrev pub encoding : Fact → List ℕ
 encoding fact = written (fields_of fact)
 
--- The numbers of a fact are those of its types. Where the type of a fact is known, they are.
+-- The numbers of a fact are those of its types. They are, where the type of the fact is known.
 abbrev pub HasTypes : Fact → Type 0
 HasTypes (Word row place (seen.Is word)) = (place < 2 ^ 32) × FitsSigned w64 word
 HasTypes (Word row place seen) = place < 2 ^ 32

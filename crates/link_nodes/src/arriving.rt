@@ -14,7 +14,7 @@ use link_core::{Fact, Node};
 use trace_plan::Plan;
 use trace_rows::CrewFault;
 
-/// Lets node 0 work, and puts the row that it comes to.
+/// Lets node 0 work, and writes the row to which it comes.
 pub(crate) fn work_shown<O: Sink>(
     room: &mut RowRoom,
     plan: &Plan,
@@ -30,14 +30,14 @@ pub(crate) fn work_shown<O: Sink>(
     ensures same { IsSameNode node.old node.new }
 {
     judged(plan);
-    // That the node keeps to the trace is known by the clauses of this call alone.
+    // Called for its clauses, which state that the node keeps to the trace.
     let _ = node.number();
     let going = node.ended().is_none();
     let came = node.work()?;
     room.show(plan, node, going, came, out)
 }
 
-/// Lets node 0 take a fact, and puts the row that it comes to.
+/// Lets node 0 take a fact, and writes the row to which it comes.
 fn take_shown<O: Sink>(
     room: &mut RowRoom,
     plan: &Plan,
@@ -55,14 +55,14 @@ fn take_shown<O: Sink>(
     ensures same { IsSameNode node.old node.new }
 {
     judged(plan);
-    // That the node keeps to the trace is known by the clauses of this call alone.
+    // Called for its clauses, which state that the node keeps to the trace.
     let _ = node.number();
     let going = node.ended().is_none();
     let came = node.take(fact)?;
     room.show(plan, node, going, came, out)
 }
 
-/// Lets facts arrive at node 0, from the last to the first and each twice, and puts the rows that it comes to.
+/// Lets facts arrive at node 0, from the last to the first and each twice, and writes the rows to which it comes.
 pub(crate) fn take_all_shown<O: Sink>(
     room: &mut RowRoom,
     plan: &Plan,

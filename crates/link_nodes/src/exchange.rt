@@ -1,4 +1,4 @@
-//! Both nodes of a plan, and what goes on between them in a round.
+//! Both nodes of a plan, and the exchange between them in a round.
 ghost use Rattle.std.specs.Prelude.{◌≡◌, ◌∷◌, [], List, Option, ℕ};
 ghost use Rattle.link_laws.specs.Pairs.{after_events};
 ghost use Rattle.link_laws.specs.declared.pair_event.PairEvent.TheVariants.{Work};
@@ -15,13 +15,13 @@ use std::sync::Arc;
 use trace_plan::Plan;
 use trace_rows::CrewFault;
 
-/// Both nodes of a plan, the facts on their way, and what rows are put with.
+/// Both nodes of a plan, the facts on their way, and what rows are written with.
 #[derive(Drop)]
 pub(crate) struct Exchange {
     pub(crate) plan: Arc<Plan>,
     pub(crate) first: Node,
     pub(crate) second: Node,
-    /// Of the facts of each.
+    /// The spans of the facts of each node.
     pub(crate) first_spans: Spans,
     pub(crate) second_spans: Spans,
     pub(crate) transit: Vec<Fact>,
@@ -40,7 +40,7 @@ impl Exchange {
         Ok(())
     }
 
-    /// Lets facts of node 1 arrive at node 0. Where it has ended it would take none, so none are sent.
+    /// Lets facts of node 1 arrive at node 0. Where node 0 has ended it would drop all, so none are sent.
     fn tell_first<O: Sink>(&mut self, round: Round, out: &mut O) -> Result<(), CrewFault>
         requires { IsExchange self.old }
         ensures { ExchangeComes self.old (to_first (exchange_rule self.old) round.seed round.number (pair_of self.old)) self.new
@@ -63,7 +63,7 @@ impl Exchange {
         )
     }
 
-    /// Lets facts of node 0 arrive at node 1, likewise.
+    /// Lets facts of node 0 arrive at node 1, in the same way.
     fn tell_second(&mut self, round: Round) -> Result<(), CrewFault>
         requires { IsExchange self.old }
         ensures { (held : Option (List ℕ)) (faults : ℕ)
@@ -82,7 +82,7 @@ impl Exchange {
         Ok(())
     }
 
-    /// Keeps the position of node 1, or starts it again, where the round has it.
+    /// Saves the position of node 1, or starts it again, in the rounds that do so.
     fn keep(&mut self, number: u64)
         requires { IsExchange self.old }
         ensures exchange { IsExchange self.new }
@@ -97,7 +97,7 @@ impl Exchange {
         }
     }
 
-    /// A round.
+    /// Makes a round.
     pub(crate) fn round<O: Sink>(&mut self, round: Round, out: &mut O) -> Result<(), CrewFault>
         requires { IsExchange self.old }
         ensures { ExchangeComes self.old (after_round (exchange_rule self.old) round.seed round.number (pair_of self.old)) self.new

@@ -15,7 +15,7 @@ pub(crate) struct Fields {
     pub(crate) number: i64,
 }
 
-/// The tag of a fault.
+/// Returns the tag of a fault.
 fn tag(fault: Fault) -> u8
     ensures { result ≡ tag_of fault }
 {
@@ -28,7 +28,7 @@ fn tag(fault: Fault) -> u8
     }
 }
 
-/// The fault of a tag.
+/// Returns the fault of a tag.
 fn fault(tag: u8) -> Fault
     ensures { result ≡ fault_tagged tag }
 {
@@ -41,7 +41,7 @@ fn fault(tag: u8) -> Fault
     }
 }
 
-/// The fields of a fact.
+/// Returns the fields of a fact.
 pub(crate) fn fields_of(fact: Fact) -> Fields
     requires { HasLengths fact }
     ensures { result ≡ fields_of fact }
@@ -100,7 +100,7 @@ pub(crate) fn fields_of(fact: Fact) -> Fields
     }
 }
 
-/// What fields may tell of an output.
+/// Returns what fields may say of an output.
 fn seen(tag: u8, number: i64) -> Seen
     ensures { result ≡ seen_told tag number }
 {
@@ -111,7 +111,7 @@ fn seen(tag: u8, number: i64) -> Seen
     }
 }
 
-/// What fields may tell of a `max`.
+/// Returns what fields may say of a `max`.
 fn asked(tag: u8, number: i64) -> Asked
     ensures { result ≡ asked_told tag number }
 {
@@ -122,7 +122,7 @@ fn asked(tag: u8, number: i64) -> Asked
     }
 }
 
-/// What fields may tell of a step.
+/// Returns what fields may say of a step.
 fn said(tag: u8, number: i64) -> Said
     ensures { result ≡ said_told tag number }
 {
@@ -132,7 +132,7 @@ fn said(tag: u8, number: i64) -> Said
     }
 }
 
-/// What fields may tell, whatever they are.
+/// Returns a fact for any fields, valid or not.
 pub(crate) fn fact_of(fields: Fields) -> Fact
     ensures { result ≡ fact_told fields }
 {

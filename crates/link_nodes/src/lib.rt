@@ -1,13 +1,13 @@
 //! Two nodes in one process, and their facts as bytes.
 //!
-//! [`run_nodes`] runs a plan by two nodes, which own its instances by turns, so many rounds: facts are lost, come twice and late, and
-//! node 1 starts again from time to time. What is put is the header and the rows that node 0 has committed, of the one trace.
-//! [`encode`] writes a fact as 22 bytes, and [`decode`] reads them; by their clauses each is the other's inverse, and bytes that encode
-//! no fact tell none.
+//! [`run_nodes`] runs a plan by two nodes for some number of rounds. They own its instances by turns. Facts are lost, come twice and
+//! late, and node 1 starts again from time to time. It writes the header and the rows that node 0 has committed, of the one trace.
+//! [`encode`] writes a fact as 22 bytes, and [`decode`] reads them. By their clauses each is the inverse of the other, and other bytes
+//! have no fact.
 //!
-//! Definitions: `specs/Rounds.antt` (what happens in each round), `specs/Shown.antt` (what is put and told) and `specs/Wire.antt`
-//! (fields and encodings). `specs/ShownRows.antt`, `specs/Exchanges.antt` and `specs/Decoding.antt`, which need not be believed, say how
-//! it is gone about.
+//! Definitions: `specs/Rounds.antt` (what happens in each round), `specs/Shown.antt` (what is written and returned) and
+//! `specs/Wire.antt` (fields and encodings). `specs/ShownRows.antt`, `specs/Exchanges.antt` and `specs/Decoding.antt` describe how the code
+//! proceeds; no promise depends on them.
 #![tactic(auto)]
 
 mod arriving;

@@ -1,4 +1,4 @@
-//! What is put of the rows that node 0 comes to.
+//! Writing the rows to which node 0 comes.
 ghost use Rattle.std.specs.Prelude.{◌≡◌, ◌∷◌, [], OnOk, OnErr};
 ghost use Rattle.std.specs.Io.KnownBytes.{Appends};
 ghost use Rattle.cosim_io.specs.Pieces.{AppendsPrefix};
@@ -14,7 +14,7 @@ use trace_csv::RowWriter;
 use trace_plan::Plan;
 use trace_rows::CrewFault;
 
-/// What is known of every plan, by the clause of this call.
+/// States what is known of every plan.
 pub(crate) fn judged(plan: &Plan)
     ensures { IsJudged plan.now }
 {
@@ -23,7 +23,7 @@ pub(crate) fn judged(plan: &Plan)
     let _ = plan.checked().system();
 }
 
-/// Whether a node came to a row in a call. `going` tells whether it had not ended before.
+/// Returns whether a node came to a row in a call. `going` says whether it had not ended before.
 fn comes(going: bool, taken: Taken) -> bool
     ensures { result ≡ comes going taken }
 {
@@ -34,7 +34,7 @@ fn comes(going: bool, taken: Taken) -> bool
     }
 }
 
-/// What rows are put with: one writer for all of them, and room for the text of one.
+/// What rows are written with: one writer for all of them, and a buffer for the text of one.
 #[derive(Drop)]
 pub(crate) struct RowRoom {
     writer: RowWriter,
@@ -42,7 +42,7 @@ pub(crate) struct RowRoom {
 }
 
 impl RowRoom {
-    /// It takes no memory yet; `alloc` is where it comes from later.
+    /// Returns a value that takes no memory yet: `alloc` is where its memory comes from later.
     pub(crate) fn new(alloc: Global) -> RowRoom {
         RowRoom {
             writer: RowWriter::new(alloc),
@@ -50,7 +50,7 @@ impl RowRoom {
         }
     }
 
-    /// Puts a row of a plan's trace as one piece.
+    /// Writes a row of a plan's trace as one piece.
     fn put_row<O: Sink>(&mut self, plan: &Plan, row: Row<'_>, out: &mut O) -> Result<(), CrewFault>
         requires row { IsRowOfTrace plan.now.run (row_told row) }
         ensures whole { OnOk result (Appends (O.held out.old) (O.held out.new) (lines_of plan.now.system (row_told row.entry ∷ []))) }
@@ -69,7 +69,7 @@ impl RowRoom {
         Ok(())
     }
 
-    /// Puts the row that a node came to in a call, where it came to one. `going` tells whether it had not ended before.
+    /// Writes the row to which a node came in a call, where it came to one. `going` says whether it had not ended before.
     pub(crate) fn show<O: Sink>(
         &mut self,
         plan: &Plan,
@@ -89,7 +89,7 @@ impl RowRoom {
         if !comes {
             return Ok(());
         }
-        // That it is a row of the trace is known by the clauses of this call alone.
+        // Called for its clauses, which state that it is a row of the trace.
         let _ = node.number();
         match node.row() {
             Some(row) => self.put_row(plan, row, out),

@@ -19,7 +19,7 @@ use trace_plan::Plan;
 use trace_rows::{CrewFault, put_header};
 use unit_tree::Ending;
 
-/// How far two nodes are: the numbers of their rows, and the point where node 0 stands and how the trace ended there, where it has.
+/// The progress of two nodes: the numbers of their rows, the point of node 0, and how the trace ended there, where it has.
 #[derive(Clone, Copy, Debug, PartialEq, Eq)]
 pub struct Nodes {
     pub first: u64,
@@ -28,7 +28,7 @@ pub struct Nodes {
     pub outcome: Option<Ending>,
 }
 
-/// Both nodes of a plan at its start, whose instances are owned by turns.
+/// Returns both nodes of a plan at its start. They own its instances by turns.
 fn exchange_of(alloc: Global, plan: Arc<Plan>) -> Result<Exchange, NoMemory>
     ensures { IfOk result (IsOpened plan.value) }
 {
@@ -47,7 +47,7 @@ fn exchange_of(alloc: Global, plan: Arc<Plan>) -> Result<Exchange, NoMemory>
     })
 }
 
-/// Goes so many rounds.
+/// Makes so many rounds.
 fn go_rounds<O: Sink>(
     exchange: &mut Exchange,
     seed: u64,
@@ -68,7 +68,7 @@ fn go_rounds<O: Sink>(
     Ok(())
 }
 
-/// How far both nodes are.
+/// Returns the progress of both nodes.
 fn told(exchange: &Exchange) -> Nodes
     ensures { result ≡ told_of (pair_of exchange.now) }
 {
@@ -80,14 +80,15 @@ fn told(exchange: &Exchange) -> Nodes
     }
 }
 
-/// Runs a plan by two nodes, whose instances they own by turns, so many rounds: puts the header and the rows that node 0 comes to, one
-/// piece each, and tells how far both are. In round k, from 1 on, node 0 works, then node 1. Then of the facts of either that are of the
-/// row where the other stands, those whose place in their list plus k plus `seed` is not 3 modulo 4 arrive there, encoded and decoded,
-/// from the last to the first and each twice; first at node 0. Node 1 keeps its position in each fifth round, and starts again in each
-/// eighth.
+/// Runs a plan by two nodes for `rounds` rounds. They own its instances by turns. Writes the header and the rows to which node 0
+/// comes, one piece each, and returns the progress of both.
 ///
-/// [`CrewFault::WriteFault`] where a put failed, and only there; then, or where there is no memory, what was put begins what these rounds
-/// show.
+/// In round k, from 1 on, node 0 works, then node 1. Then facts arrive, first at node 0: from the list of the other node, those of the
+/// row of the receiving node whose place in the list plus k plus `seed` is not 3 modulo 4. They are encoded and decoded, and arrive
+/// from the last to the first and each twice. Node 1 saves its position in each fifth round, and starts again in each eighth.
+///
+/// Fails with [`CrewFault::WriteFault`] exactly where a write failed. After a failure the written bytes are a prefix of what these
+/// rounds show.
 pub fn run_nodes<O: Sink>(
     alloc: Global,
     plan: Arc<Plan>,
@@ -99,7 +100,7 @@ pub fn run_nodes<O: Sink>(
     ensures front { OnErr result (BeginsRounds plan.value seed rounds (O.held out.old) (O.held out.new)) }
     ensures cause { TellsFault (O.faults out.old) (O.faults out.new) result }
 {
-    // All memory of the nodes but that of facts and lines is taken before anything is put.
+    // All memory of the nodes except for that of facts and lines is taken before anything is written.
     let mut exchange = exchange_of(alloc, plan)?;
     judged(&exchange.plan);
     put_header(alloc, &exchange.plan, out)?;

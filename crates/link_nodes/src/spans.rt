@@ -1,4 +1,4 @@
-//! Where the facts of each row stand in a list of facts that grows.
+//! The places of the facts of each row in a growing list of facts.
 ghost use Rattle.std.specs.Prelude.{◌≡◌, ◌≤◌, ◌<◌, ◌++◌, ◌∷◌, ◌^◌, [], List, length, take, OnOk};
 ghost use Rattle.link_laws.specs.Boards.{row_of};
 ghost use Rattle.link_laws.specs.declared.fact.Fact.{Fact as TheFact};
@@ -8,21 +8,21 @@ use fixed_words::NoMemory;
 use link_core::Fact;
 use std::alloc::Global;
 
-/// Places from `first` on, and before `end`.
+/// The places from `first` on and before `end`.
 #[derive(Clone, Copy, Debug)]
 pub(crate) struct Span {
     pub(crate) first: usize,
     pub(crate) end: usize,
 }
 
-/// A span for each row, in which its facts stand that are among the first `noted` of a list.
+/// A span for each row, with the places of its facts among the first `noted` of a list.
 #[derive(Drop)]
 pub(crate) struct Spans {
     pub(crate) rows: Vec<Span>,
     pub(crate) noted: usize,
 }
 
-/// Adds spans without places, until there is one for the row.
+/// Adds empty spans, until there is one for the row.
 fn grow(rows: &mut Vec<Span>, row: usize, place: usize) -> Result<(), NoMemory>
     ensures long { OnOk result (row < length rows.new.items) }
     ensures noted { OnOk result ((facts : List TheFact) → length facts ≡ place → AreNoted rows.old.items facts → AreNoted rows.new.items facts) }
@@ -36,7 +36,7 @@ fn grow(rows: &mut Vec<Span>, row: usize, place: usize) -> Result<(), NoMemory>
     Ok(())
 }
 
-/// Notes one more fact of a row, at a place behind all that were noted.
+/// Notes one more fact of a row, at a place after all that were noted.
 fn note_one(rows: &mut Vec<Span>, place: usize, row: u64) -> Result<(), NoMemory>
     requires place { place < 2 ^ 63 }
     ensures { OnOk result ((facts : List TheFact) (fact : TheFact) → length facts ≡ place → row_of fact ≡ row → AreNoted rows.old.items facts
@@ -48,7 +48,7 @@ fn note_one(rows: &mut Vec<Span>, place: usize, row: u64) -> Result<(), NoMemory
 }
 
 impl Spans {
-    /// Of no fact.
+    /// Returns the spans of no facts.
     pub(crate) fn new(alloc: Global) -> Spans
         ensures rows { result.rows.items ≡ [] }
         ensures noted { result.noted ≡ 0 }
@@ -73,7 +73,7 @@ impl Spans {
         Ok(())
     }
 
-    /// The span of a row. Outside of it there is no fact of the row.
+    /// Returns the span of a row. Outside of it there is no fact of the row.
     pub(crate) fn span(&self, row: u64) -> Span
         ensures others { (facts : List TheFact) → AreNoted self.now.rows.items facts → AreOfOtherRows facts row result.first result.end }
         ensures end { (facts : List TheFact) → AreNoted self.now.rows.items facts → result.end ≤ length facts }

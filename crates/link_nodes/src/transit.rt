@@ -11,14 +11,14 @@ use crate::wire::{decode, encode};
 use fixed_words::NoMemory;
 use link_core::{Asked, Fact, Said, Seen};
 
-/// A round, by its number from 1, and the seed that tells with it which facts are lost.
+/// A round, given by its number from 1, and the seed. Together they determine which facts are lost.
 #[derive(Clone, Copy, Debug)]
 pub(crate) struct Round {
     pub(crate) seed: u64,
     pub(crate) number: u64,
 }
 
-/// Whether a fact is one of the row and isn't lost in a round.
+/// Returns whether a fact is one of the row and isn't lost in a round.
 fn is_sent(round: Round, row: u64, place: usize, fact: Fact) -> bool
     ensures { result ≡ is_sent round.seed round.number row (place, fact) }
 {
@@ -26,14 +26,14 @@ fn is_sent(round: Round, row: u64, place: usize, fact: Fact) -> bool
     fact.row() == row && (place % 4 + round.number % 4 + round.seed % 4) % 4 != 3
 }
 
-/// That the numbers of a fact are those of its types.
+/// States that the numbers of a fact are those of its types.
 fn typed(fact: Fact)
     ensures { HasTypes fact }
 {
     let _ = fact;
 }
 
-/// A fact as it arrives: encoded, and decoded.
+/// Returns a fact as it arrives: encoded, and decoded.
 fn carried(fact: Fact) -> Fact
     requires { is_short fact ≡ true }
     ensures { result ≡ fact }
@@ -45,7 +45,7 @@ fn carried(fact: Fact) -> Fact
     }
 }
 
-/// Sends the facts of a row that aren't lost in a round, in the order of their list. Outside the span it has none of the row.
+/// Sends the facts of a row that aren't lost in a round, in the order of their list. Outside the span there are none of the row.
 pub(crate) fn send(
     facts: &[Fact],
     span: Span,

@@ -41,7 +41,7 @@ fn write(fields: Fields) -> [u8; 22]
     ]
 }
 
-/// Reads fields, whatever they are. There are none exactly where the bytes aren't 22.
+/// Reads fields, valid or not. Returns `None` exactly where there aren't 22 bytes.
 fn read(bytes: &[u8]) -> Option<Fields>
     ensures some { IfSome result (λ fields. fields ≡ read bytes.now) }
     ensures long { IfSome result (λ fields. length bytes.now ≡ 22) }
@@ -83,7 +83,7 @@ fn read(bytes: &[u8]) -> Option<Fields>
     })
 }
 
-/// Whether a fact can be encoded: its row is below 100,000, and a length is at most the greatest word.
+/// Returns whether a fact can be encoded: its row is below 100,000, and a length is at most the greatest word.
 fn is_short(fact: Fact) -> bool
     ensures { result ≡ is_short fact }
 {
@@ -104,7 +104,7 @@ fn is_short(fact: Fact) -> bool
     }
 }
 
-/// Encodes a fact that is short, as each one is that a node lists. No memory is taken.
+/// Encodes a fact that is short, as each listed fact of a node is. Takes no memory.
 pub fn encode(fact: &Fact) -> [u8; 22]
     requires { is_short fact.now ≡ true }
     ensures { result ≡ encoding fact.now }
@@ -112,21 +112,21 @@ pub fn encode(fact: &Fact) -> [u8; 22]
     write(fields_of(*fact))
 }
 
-/// Whether bytes are those of a fact.
+/// Returns whether bytes are those of a fact.
 fn is_written(bytes: &[u8], fact: Fact) -> bool
     ensures { result ≡ is_written bytes.now fact }
 {
     is_short(fact) && bytes == encode(&fact).as_slice()
 }
 
-/// The fact, where it is told.
+/// Returns the fact, if `told`.
 fn told_if(told: bool, fact: Fact) -> Option<Fact>
     ensures { result ≡ told_if told fact }
 {
     if told { Some(fact) } else { None }
 }
 
-/// Reads whatever the bytes are, writes it again, and compares.
+/// Reads any bytes as a fact, writes it again, and compares.
 #[tactic(auto, using(crate::proofs::WireLaws::no_length))]
 fn decode_all(bytes: &[u8]) -> Option<Fact>
     ensures { result ≡ decoded bytes.now }
@@ -137,7 +137,7 @@ fn decode_all(bytes: &[u8]) -> Option<Fact>
     }
 }
 
-/// Decodes a fact. There is none exactly where the bytes are no encoding. No memory is taken.
+/// Decodes a fact. Returns `None` exactly where the bytes are no encoding. Takes no memory.
 pub fn decode(bytes: &[u8]) -> Option<Fact>
     ensures written { IfSome result (λ fact. bytes.now ≡ encoding fact) }
     ensures short { IfSome result (λ fact. is_short fact ≡ true) }

@@ -1,4 +1,4 @@
-//! Nodes and pairs. What is expected was worked out by hand.
+//! Nodes and pairs. The expected results were worked out by hand.
 ghost use Rattle.std.specs.Prelude.{◌≡◌, ◌≤◌, IfOk};
 
 use fixed_words::{Fault, NoMemory};
@@ -15,7 +15,7 @@ use unit_tree::{Ending, Place};
 const COUNTER: &str =
     "cosim 1\nunit Counter\n  state n : Int64 = 0\n  output y : Int64 = n\n  step\n    n := n + 1\n  end\nend\ninstance a : Counter\nend\nstop 1\nlongest 1\n";
 
-/// An output that needs one with a fault and one of the other node.
+/// An output that needs two others: one with a fault and one of the other node.
 const FAULTY: &str =
     "cosim 1\nunit A\nstate z : Int64 = 0\ninput u : Int64 = 0\ninput v : Int64 = 0\noutput p : Int64 = 1 div z\noutput x : Int64 needs u, v = u + v\nend\nunit B\noutput y : Int64 = 3\nend\ninstance a : A\nend\ninstance b : B\nend\nconnect a.p -> a.u\nconnect b.y -> a.v\nstop 1\n";
 
@@ -23,7 +23,7 @@ const FAULTY: &str =
 const RING: &str =
     "cosim 1\nunit B\ninput u : Int64 = 0\noutput y : Int64 needs u = u + 1\nend\nunit A\nstate n : Int64 = 10\ninput u : Int64 = 0\noutput x : Int64 = n\nstep\nn := u\nend\nend\ninstance b : B\nend\ninstance a : A\nend\nconnect a.x -> b.u\nconnect b.y -> a.u\nstop 3\nlongest 1\n";
 
-/// Node 0 or 1 of a plan, whose instances are owned by turns.
+/// Returns node 0 or 1 of a plan. The nodes own its instances by turns.
 fn node_of(alloc: Global, plan: &Arc<Plan>, me: u8) -> Result<Node, NoMemory>
     requires { me ≤ 1 }
     ensures { IfOk result (λ node. node.plan ≡ plan.now.value) }
@@ -32,20 +32,20 @@ fn node_of(alloc: Global, plan: &Arc<Plan>, me: u8) -> Result<Node, NoMemory>
     Node::open(alloc, Arc::clone(plan)?, owners, me)
 }
 
-/// Node 0 of the system of a text.
+/// Returns node 0 of the system of a text.
 fn first_of(alloc: Global, text: &str) -> Result<Node, Fail> {
     let plan = plan_of(alloc, text)?;
     Ok(node_of(alloc, &plan, 0)?)
 }
 
-/// Both nodes.
+/// Returns both nodes.
 fn pair_of(alloc: Global, text: &str) -> Result<Pair, Fail> {
     let plan = plan_of(alloc, text)?;
     let owners = by_turns(alloc, &plan)?;
     Ok(Pair::open(alloc, plan, owners)?)
 }
 
-/// Where a node comes that works, ends, and starts again from the row before.
+/// Returns whether a node works, ends, and starts again from the row before, as expected.
 fn works_alone(node: &mut Node) -> Result<bool, Fail> {
     let first = node.work()?;
     node.keep();
@@ -65,7 +65,7 @@ fn works_alone(node: &mut Node) -> Result<bool, Fail> {
     )
 }
 
-/// Whether the last row that a node came to has one word, and which.
+/// Returns whether the last row to which a node came has one word, and it is this one.
 fn shows(node: &Node, word: i64) -> bool {
     match node.row() {
         Some(row) => row.words == [word].as_slice(),
@@ -86,7 +86,7 @@ fn a_node_that_owns_all_works_by_itself(rt: HostRuntime) -> Result<(), Fail> {
     Ok(())
 }
 
-/// Whether events of a pair come to this.
+/// Returns whether events of a pair have these results.
 fn come_to(pair: &mut Pair, events: &[(PairEvent, Taken)]) -> Result<bool, Fail> {
     for (event, taken) in events {
         if pair.apply(event)? != *taken {
@@ -96,14 +96,14 @@ fn come_to(pair: &mut Pair, events: &[(PairEvent, Taken)]) -> Result<bool, Fail>
     Ok(true)
 }
 
-/// Whether nodes stand at these rows, and node 0 ended so and made these facts.
+/// Returns whether nodes are at these rows, and node 0 ended in this way and made these facts.
 fn stand_so(pair: &Pair, numbers: (u64, u64), ended: Option<Ending>, facts: &[Fact]) -> bool {
     (pair.first().number(), pair.second().number()) == numbers
         && pair.first().ended() == ended
         && pair.first().facts() == facts
 }
 
-/// An output is told as without a word as soon as one that it needs has none, whatever else is not known.
+/// It is a fact that an output has no word as soon as one that it needs has none, whatever else is unknown.
 #[test]
 fn a_fault_is_told_before_all_words_are_known(rt: HostRuntime) -> Result<(), Fail> {
     let mut pair = pair_of(rt.alloc(), FAULTY)?;
@@ -204,7 +204,8 @@ fn a_ring_goes_on_by_facts_of_both(rt: HostRuntime) -> Result<(), Fail> {
     Ok(())
 }
 
-/// What the nodes of a ring answer, which take facts of each other by their places. A third one is node 1 too, and takes a fact of its own.
+/// Returns the results of the calls of a ring's nodes, which take facts of each other by their places. A third one is node 1 too, and takes
+/// a fact of its own.
 fn answers(first: &mut Node, second: &mut Node, third: &mut Node) -> Result<[Taken; 10], NoMemory>
     requires second { second.old.plan ≡ first.old.plan }
     requires third { third.old.plan ≡ first.old.plan }
@@ -223,7 +224,7 @@ fn answers(first: &mut Node, second: &mut Node, third: &mut Node) -> Result<[Tak
     ])
 }
 
-/// Whether a node has no new facts where it starts again and works, and stands at the first row.
+/// Returns whether a node starts again and works without new facts, and is at the first row.
 fn starts_anew(node: &mut Node, facts: usize) -> Result<bool, NoMemory> {
     node.restart();
     let taken = node.work()?;
@@ -245,18 +246,18 @@ fn nodes_take_facts_of_the_other_once(rt: HostRuntime) -> Result<(), Fail> {
     drop(third);
     let expected = [
         Taken::Kept,
-        // Its own.
+        // A fact of its own instance.
         Taken::Dropped,
         Taken::Kept,
-        // It is known.
+        // The fact is known.
         Taken::Dropped,
-        // There is none yet.
+        // There is no such fact yet.
         Taken::Dropped,
         Taken::Kept,
         Taken::Kept,
         Taken::Kept,
         Taken::Row,
-        // Of the row before.
+        // A fact of the row before.
         Taken::Dropped,
     ];
     assert_eq!(rt; answers?, expected);

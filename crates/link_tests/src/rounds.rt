@@ -1,4 +1,4 @@
-//! Runs of two nodes, and bytes near those of facts. What is expected was worked out by hand.
+//! Runs of two nodes, and bytes near those of facts. The expected results were worked out by hand.
 use cosim_io::MemSink;
 use fixed_words::Fault;
 use link_core::{Asked, Fact, Said, Seen};
@@ -9,7 +9,7 @@ use super_time::Point;
 use test_plans::plan_of;
 use unit_tree::Ending;
 
-/// No text here puts more bytes.
+/// Every text here prints fewer bytes.
 const ROOM: usize = 4096;
 
 /// A unit that counts, until three seconds.
@@ -20,7 +20,7 @@ const COUNTER: &str =
 const RING: &str =
     "cosim 1\nunit B\ninput u : Int64 = 0\noutput y : Int64 needs u = u + 1\nend\nunit A\nstate n : Int64 = 10\ninput u : Int64 = 0\noutput x : Int64 = n\nstep\nn := u\nend\nend\ninstance b : B\nend\ninstance a : A\nend\nconnect a.x -> b.u\nconnect b.y -> a.u\nstop 2\nlongest 1\n";
 
-/// Nodes that stand at these rows.
+/// Returns the progress of nodes that are at these rows.
 const fn at(first: u64, second: u64, t: u64, outcome: Option<Ending>) -> Nodes {
     Nodes {
         first,
@@ -30,7 +30,7 @@ const fn at(first: u64, second: u64, t: u64, outcome: Option<Ending>) -> Nodes {
     }
 }
 
-/// Whether two nodes put this of a text, and come so far.
+/// Returns whether two nodes write these bytes for a text, and come so far.
 fn puts(
     alloc: Global,
     text: &str,
@@ -87,7 +87,7 @@ const ROW: u64 = 1;
 
 const PLACE: u32 = 2;
 
-/// What is told of the output there, of the `max` and of a reply of the instance with that number.
+/// Returns a fact of the output there; further functions one of the `max` and of a reply of the instance with that number.
 const fn word(seen: Seen) -> Option<Fact> {
     Some(Fact::Word {
         row: ROW,
@@ -113,7 +113,7 @@ const fn reply(redo: bool, said: Said) -> Option<Fact> {
     })
 }
 
-/// Bytes with this kind, this tag and this number, of that row and place.
+/// Returns bytes with this kind, this tag and this number, of that row and place.
 const fn bytes_of(kind: u8, tag: u8, number: u8) -> [u8; 22] {
     let (row, place) = (ROW as u8, PLACE as u8);
     [
@@ -165,7 +165,7 @@ fn rows_and_lengths_have_ends(rt: HostRuntime) -> Result<(), Fail> {
     let mut lowest = bytes_of(1, 0, 0);
     lowest[14] = 0x80;
     assert!(rt; decode(&lowest) == word(Seen::Is(i64::MIN)));
-    // A length isn't negative.
+    // A length must not be negative.
     lowest[0] = 2;
     assert!(rt; decode(&lowest).is_none());
     Ok(())

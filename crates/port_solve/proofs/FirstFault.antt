@@ -20,7 +20,7 @@ use Rattle.port_solve.proofs.Fronts.{mapped}
 use Rattle.list_laws.proofs.Truths.{lt_not_told, lt_told}
 use Rattle.list_laws.proofs.Lists.{each_more}
 
--- ---- One output more
+-- ---- One more output
 
 module _ (run : Composition) (states : List (List ℤ)) (right : Ports) where
   abbrev NoFault : ℕ → Type 0
@@ -91,7 +91,7 @@ module _ (run : Composition) (states : List (List ℤ)) (right : Ports) (order :
   abbrev faults : List (Option Ending)
   faults = map (fault_at right) (outlets run states)
 
-  -- What a place tells, where it has no fault.
+  -- There is no fault at the place.
   none_told : (k : ℕ) (told : Option Ending) → slice_get faults k ≡ Some told → (IsAmong order k → fault_there run states right k ≡ None) → told ≡ None
   none_told k told is none =
       let from = mapped (fault_at right) (slice_get (outlets run states) k) told (sym (slice_get-map (fault_at right) (outlets run states) k) ∙ is) in

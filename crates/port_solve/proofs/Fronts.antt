@@ -1,5 +1,5 @@
--- A front of an order: the outputs that were worked out so far. What its next output gives, where all that it needs are
--- known, is what the port assignment says.
+-- A prefix of an order: the outputs that were computed so far. The outcome of the next output, where all that it needs are known, is
+-- that of the port assignment.
 use Rattle.std.proofs.Common.{◌≡◌, ◌∙◌, ℕ, zero, suc, ◌<◌, Bool, true, false, cond, ℤ, pos, List, [], ◌∷◌, ◌++◌, map, length, get_or, set, Option, Some, None}
 use Rattle.std.proofs.Common.{Ok, Err, inl, inr, refl, ap, sym, subst, ◌⊎◌, arith}
 use Rattle.std.proofs.lemmas.Bool.{and_parts}
@@ -40,9 +40,9 @@ use Rattle.list_laws.proofs.Members.{Has, has_map, has_at, at_place, all_has, ea
 use Rattle.list_laws.proofs.Pairs.{Beside, zip_at}
 use Rattle.list_laws.proofs.Lists.{each_more}
 
--- ---- What is known at a front
+-- ---- What is known at a prefix
 
--- A source has its word: a start word, or one of an output of the front.
+-- A source has its word: a start word, or one of an output of the prefix.
 abbrev pub Known : Ports → List ℕ → InputSource → ℤ → Type 0
 Known right front (Start start) word = start ≡ word
 Known right front (AtPlace place) word = IsAmong front place × (slice_get right place ≡ Some (Some word))
@@ -50,7 +50,7 @@ Known right front (AtPlace place) word = IsAmong front place × (slice_get right
 abbrev pub Agreed : Ports → Ports → ℕ → Type 0
 Agreed told right place = slice_get told place ≡ slice_get right place
 
--- The outputs of the front are told right, and the inputs that they feed have their words.
+-- The outputs of the prefix are right, and the inputs that they feed have their words.
 pub record IsFront (run : Composition) (right : Ports) (front : List ℕ) (told : Ports) (inputs : List (List ℤ)) : Type 0 where
   pub words : AllByRecursion (Agreed told right) front
   pub fed : (at : InputAt) (source : InputSource) (word : ℤ) → source_at run at ≡ Some source → Known right front source word → word_in inputs at ≡ word
@@ -128,7 +128,7 @@ first_there : (seen : Option ℤ) (rest : List (Option ℤ)) (words : List ℤ) 
 first_there None rest words is = absurd (cc)
 first_there (Some seen) rest words is = front_there seen rest words (all_there rest) refl is
 
--- Of an input, with whether it is needed.
+-- An input, needed or not.
 defined_one : (right : Ports) (needed : Bool) (source : InputSource) (start one : ℤ) (rest : List ℕ)
     → cond needed (input_word right source) (Some start) ≡ Some one → AllByRecursion (Defined right) rest
     → AllByRecursion (Defined right) (cons_option (cond needed (place_in source) None) rest)
@@ -226,13 +226,13 @@ module _ (run : Composition) (sound : IsSound run) where
   input_of : (at : InputAt) (source : InputSource) → source_at run at ≡ Some source → InputOf at source
   input_of at source is = input_by at source (slice_get run.members at.instance) refl is
 
-  -- A start word is one for its input.
+  -- A start word has the type of its input.
   pub start_fits : (at : InputAt) (word : ℤ) → source_at run at ≡ Some (Start word) → IsInputWord run at.instance at.input word
   start_fits at word is =
       let of = input_of at (Start word) is in
       record { input = of.input; is_there = of.is_there; fits = of.suits }
 
-  -- A word of the type of an output is one for each input that it feeds.
+  -- A word of an output's type has the type of each input that it feeds.
   pub feed_fits : (at : InputAt) (place : ℕ) (word : ℤ) → source_at run at ≡ Some (AtPlace place) → IsWordOf run place word
       → IsInputWord run at.instance at.input word
   feed_fits at place word is fits =
@@ -249,7 +249,7 @@ module _ (run : Composition) (states : List (List ℤ)) (sound : IsSound run) (h
   abbrev pub one_state : length states ≡ length run.members
   one_state = AllZip-long HasState run.members states have
 
-  -- An output can be asked where there are words for all inputs.
+  -- An output can be computed where there are words for all inputs.
   pub can_be_asked : (inputs : List (List ℤ)) (place : ℕ) (route : Route) → HaveInputs run inputs → slice_get (routes_of run).outputs place ≡ Some route
       → IsSome (given_by run states inputs route.instance route.output)
   can_be_asked inputs place route shape is_route =
@@ -301,7 +301,7 @@ module _ (run : Composition) (states : List (List ℤ)) (sound : IsSound run) (h
     given : given_by run states inputs route.instance route.output ≡ Some (get_of member.component outlet.standing.1 actual output)
     given = given_is run states place route at inputs actual words_there.is
 
-    -- The output can be asked.
+    -- The output can be computed.
     pub is_given : IsSome (given_by run states inputs route.instance route.output)
     is_given = can_be_asked inputs place route is_front.shape is_route
 
@@ -350,7 +350,7 @@ module _ (run : Composition) (states : List (List ℤ)) (sound : IsSound run) (h
         ∙ ap Some (sym (same_given seen is))
         ∙ sym (ap (option_map (λ all. get_of member.component outlet.standing.1 all output)) is)
 
-    -- What it gives is what the assignment says.
+    -- Its outcome is that of the assignment.
     pub asked_is : asked run states inputs known route ≡ given_at right outlet
     asked_is = by_seen (inputs_for right outlet) refl
 
@@ -382,7 +382,7 @@ module _ (run : Composition) (states : List (List ℤ)) (sound : IsSound run) (h
         subst (λ word. IfSome word (λ w. AllByRecursion (λ a. IsInputWord run a.instance a.input w) route.feeds)) (sym word_is)
         (by_word (word_at right outlet) refl)
 
-    -- ---- The front with it
+    -- ---- The prefix with it
 
     module _ (is_right : IsAssignment run states right) (apart : IsAmong front place → ⊥) (within : place < length (ports_told known words)) where
       right_is : slice_get right place ≡ Some (word_at right outlet)
@@ -465,7 +465,7 @@ module _ (run : Composition) (states : List (List ℤ)) (sound : IsSound run) (h
         shape = shape_after run (sets (word_at right outlet)) inputs is_front.shape;
       }
 
-      -- With what is told of it, and what is set from it.
+      -- With its known word, and the inputs that it sets.
       pub next_front : (told : Ports) (later : List (List ℤ)) → told ≡ set (ports_told known words) place (word_asked run states inputs known route)
           → later ≡ with_words inputs (set_from (word_asked run states inputs known route) route.feeds) → IsFront run right (front ++ (place ∷ [])) told later
       next_front told later told_is later_is =

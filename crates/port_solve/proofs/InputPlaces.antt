@@ -111,7 +111,7 @@ has_source_by run at source (Some member) found is =
 pub has_source : (run : Composition) (at : InputAt) (source : InputSource) → source_at run at ≡ Some source → Has (inputs_of run) (at, source)
 has_source run at source is = has_source_by run at source (slice_get run.members at.instance) refl is
 
--- ---- The inputs that an output feeds, and those that nothing is connected to
+-- ---- The inputs that an output feeds, and those without a connection
 
 fed_by : (told : Bool) (at other : InputAt) (place p : ℕ) → (p == place) ≡ told → cond told (Some at) None ≡ Some other → (at ≡ other) × (p ≡ place)
 fed_by true at other place p is fed = (cc fed, exact_unsigned_eq p place is)

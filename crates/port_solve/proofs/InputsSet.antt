@@ -1,4 +1,4 @@
--- Inputs that are set one after the other, and ports that are told by two slices.
+-- Inputs that are set one after the other, and ports that are given by two slices.
 use Rattle.std.proofs.Common.{◌≡◌, ◌∙◌, ℕ, zero, suc, ◌+◌, ◌<◌, Bool, true, false, ℤ, List, [], ◌∷◌, length, get_or, drop, set, Some, None, refl, ap, sym}
 use Rattle.std.proofs.Common.{subst, add-one, drop-cons, arith}
 use Rattle.std.specs.List.{AllByRecursion}
@@ -29,7 +29,7 @@ one_fed inputs now word feeds k default within is =
     ap (λ words. with_words words (all_with word (drop (k + 1) feeds))) is
     ∙ ap (λ left. with_words inputs (all_with word left)) (sym (left feeds k default within))
 
--- ---- Ports that are told
+-- ---- Ports that are given by slices
 
 pub told_known : (known : List Bool) (words : List ℤ) (place : ℕ) (word : ℤ) → length known ≡ length words → place < length words
     → ports_told (set known place true) (set words place word) ≡ set (ports_told known words) place (Some word)

@@ -1,5 +1,4 @@
--- A system without event ports whose connections join equal types, and whose outputs use their needs alone, is sound as it is
--- run.
+-- A system without event ports whose connections join equal types, and whose outputs use only their needs, is sound.
 use Rattle.std.proofs.Common.{◌≡◌, ◌∙◌, true, false, List, [], ◌∷◌, ◌++◌, append-nil, map, Option, Some, None, inl, inr, refl, ap, sym, subst}
 use Rattle.std.proofs.lemmas.List.{length-map}
 use Rattle.std.proofs.lemmas.Option.{same_Some}

@@ -1,4 +1,4 @@
--- Ports one by one: what an output gives for words that are known, and inputs that are fed with a word from elsewhere.
+-- Ports one by one: the outcome of an output for known words, and inputs that are fed with a word from elsewhere.
 use Rattle.std.proofs.Common.{◌≡◌, ◌∙◌, ◌≢◌, ℕ, zero, suc, Bool, ℤ, List, [], ◌∷◌, length, set, Option, Some, None, inl, inr, refl, ap, sym, subst}
 use Rattle.std.proofs.lemmas.Bool.Decides.{eqb_tells}
 use Rattle.std.proofs.lemmas.Option.{same_Some}
@@ -22,7 +22,7 @@ use Rattle.port_solve.proofs.OutputPlaces.{outlet_of}
 use Rattle.port_solve.proofs.SetWords.{word_after}
 use Rattle.list_laws.proofs.Members.{Has, has_map, all_has, each_has, set_elsewhere}
 
--- ---- An output that is asked
+-- ---- The outcome of one output
 
 among_more : (first : ℕ) (places some : List ℕ) → AllByRecursion (IsAmong places) some → AllByRecursion (IsAmong (first ∷ places)) some
 among_more first places [] all = tt
@@ -46,12 +46,12 @@ module _ (run : Composition) (told : Ports) (inputs : List (List ℤ)) (their : 
   agree_themselves [] = tt
   agree_themselves (first ∷ front) = (refl, agree_themselves front)
 
-  -- Whatever places are taken as the front, what is told is right there, and the inputs have it.
+  -- For any places as the prefix, the known words are right there, and the inputs have them.
   known_front : (front : List ℕ) → IsFront run told front told inputs
   known_front front = record { words = agree_themselves front; fed = known_fed front; shape = shape }
 
 module _ (run : Composition) (states : List (List ℤ)) (sound : IsSound run) (have : HaveStates run states) where
-  -- What an output gives that is asked, for the known words.
+  -- The outcome of an output, for the known words.
   pub asked_there : (known : List Bool) (words : List ℤ) (inputs : List (List ℤ)) (place : ℕ) (route : Route) → length words ≡ length known
       → HaveTheirWords run (ports_told known words) inputs → HaveInputs run inputs → slice_get (routes_of run).outputs place ≡ Some route
       → asked run states inputs known route ≡ given_there run states (ports_told known words) place
@@ -65,7 +65,7 @@ module _ (run : Composition) (states : List (List ℤ)) (sound : IsSound run) (h
 
 -- ---- A word from elsewhere
 
--- Of a place that got a word nothing else is known but this word.
+-- After a place got a word, only this is known of it.
 set_there : (ports : Ports) (place : ℕ) (word : ℤ) (Holds : ℤ → Type 0) → Holds word
     → IfSome (option_and_then (λ w. w) (slice_get (set ports place (Some word)) place)) Holds
 set_there [] place word Holds holds = tt
@@ -116,7 +116,7 @@ module _ (run : Composition) (sound : IsSound run) (place : ℕ) (word : ℤ) wh
         same_source : (start : StartWord) → Has sets start → start.at ≡ at → source ≡ AtPlace place
         same_source start has same = same_Some source (AtPlace place) (sym is ∙ ap (source_at run) (sym same) ∙ (fed_of start has).source)
 
-    -- One that it feeds has the word.
+    -- An input that it feeds has the word.
     fed : (at : InputAt) → source_at run at ≡ Some (AtPlace place) → word_in now at ≡ word
     fed at is =
         word_after run (same_sources run sound) at (AtPlace place) is word sets inputs shape (λ start has same. (fed_of start has).word_is)
@@ -140,6 +140,6 @@ module _ (run : Composition) (sound : IsSound run) (place : ℕ) (word : ℤ) wh
           place_of : AtPlace other ≡ AtPlace place → place ≡ other
           place_of same = cc
 
-      -- Inputs have the words of the ports with this word more.
+      -- Inputs have the words of the ports with this additional word.
       pub fed_words : HaveTheirWords run (set ports place (Some word)) now
       fed_words = all_has (HasItsWord (set ports place (Some word)) now) (inputs_of run) (λ pair has. its_word pair.0 pair.1 (source_is run pair.0 pair.1 has))

@@ -1,4 +1,4 @@
--- The loop along an order: what holds of its front holds of the front with the next output.
+-- The loop along an order: what holds of a prefix holds of the prefix with the next output.
 use Rattle.std.proofs.Common.{◌≡◌, ◌∙◌, ℕ, ◌+◌, ◌<◌, ◌≤◌, Bool, ℤ, List, length, take, get_or, set, Option, Some, ap, sym, subst, arith}
 use Rattle.std.proofs.lemmas.List.{take_more, take_all}
 use Rattle.std.specs.Prelude.{slice_get, IsSome}
@@ -30,7 +30,7 @@ module _ (run : Composition) (states : List (List ℤ)) (sound : IsSound run) (h
   abbrev one : HasOneAssignment run states
   one = one_assignment run places states is_order same
 
-  -- Of each port assignment, which is but one.
+  -- For each port assignment; there is only one.
   abbrev pub Front : ℕ → Ports → List (List ℤ) → Type 0
   Front k told inputs = (right : Ports) → IsAssignment run states right → IsFront run right (take k places) told inputs
 

@@ -16,7 +16,7 @@ use Rattle.unit_tree.specs.declared.unit.Output.{Output}
 use Rattle.run_laws.proofs.AssignmentLaws.{needs_of}
 use Rattle.list_laws.proofs.Pairs.{zip_append, zip_at}
 
--- ---- Outputs with their numbers beside outlets
+-- ---- Outputs with their numbers, next to outlets
 
 abbrev numbered_as : ℕ → Member → ℕ × Output → Numbered
 numbered_as instance member counted = record { instance = instance; output = counted.0; needs = places_needed member counted.1 }
@@ -121,7 +121,7 @@ module _ (run : Composition) (states : List (List ℤ)) where
         output = ap (slice_get beside.other.standing.0.component.unit.outputs) (sym output_is) ∙ matched.output;
       }
 
-  -- What its component gives of it.
+  -- Its outcome from its component.
   pub given_is : (place : ℕ) (route : Route) (at : OutletAt place route) (inputs : List (List ℤ)) (words : List ℤ)
       → slice_get inputs route.instance ≡ Some words
       → given_by run states inputs route.instance route.output ≡ Some (get_of at.outlet.standing.0.component at.outlet.standing.1 words at.outlet.output)

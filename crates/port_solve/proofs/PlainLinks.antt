@@ -1,4 +1,4 @@
--- The plain form of a judged system is linked: its connections join equal types, and its outputs use their needs alone.
+-- The plain form of a judged system is linked: its connections join equal types, and its outputs use only their needs.
 use Rattle.std.proofs.Common.{◌≡◌, ◌∙◌, ℕ, ℤ, Bool, true, false, cond, List, [], ◌∷◌, ◌++◌, map, Option, Some, None, inl, inr, refl, ap, sym, subst, ◌⊎◌}
 use Rattle.std.proofs.lemmas.Bool.{and_parts, or_parts}
 use Rattle.std.proofs.lemmas.Option.{same_Some}
@@ -49,7 +49,7 @@ use Rattle.port_solve.proofs.PlainUses.{Names, plain_names, presence_names, word
 use Rattle.list_laws.proofs.Members.{Has, has_front, has_behind, has_either, has_map, all_has, each_has}
 use Rattle.list_laws.proofs.Truths.{not_false}
 
--- ---- What a rule on uses says of single names
+-- ---- The consequences of a rule on uses for single names
 
 abbrev Shown : Unit → List (List ℕ) → List ℕ → Type 0
 Shown unit needs name = (is_among (input_names unit) name && not (is_among needs name)) ≡ false
@@ -86,7 +86,7 @@ same_words one other is =
     let both = and_parts (int_eq (lowest one.ty) (lowest other.ty)) (int_eq (highest one.ty) (highest other.ty)) ends in
     (int_same (lowest one.ty) (lowest other.ty) both.0, int_same (highest one.ty) (highest other.ty) both.1)
 
--- The output of a connection whose input is there.
+-- The output of a connection whose input exists.
 joined_by : (from : Option Port) (to : Option Port) (input : Port) → to ≡ Some input → is_none from ≡ false → differ from to ≡ false
     → (output : Port) × (from ≡ Some output) × HaveSameWords output.ty input.ty
 joined_by None to input to_is some same = absurd (cc)
@@ -164,7 +164,7 @@ module _ (system : System) (ranged : IsRanged system) (kept : IsWellFormed syste
         has_map (λ (p : Port). p.name) (input_ports unit) (of_event_in event)
         (has_behind (map of_input unit.inputs) (map of_event_in unit.events_in) (of_event_in event) (has_map of_event_in unit.events_in event has))
 
-    -- The name of an input is that of a word.
+    -- The name of an input is a word of the language.
     input_name_plain : (name : List ℕ) → Has (input_names unit) name → IsPlain name
     input_name_plain name has =
         let port = map_has (λ (p : Port). p.name) (input_ports unit) name has in
@@ -174,7 +174,7 @@ module _ (system : System) (ranged : IsRanged system) (kept : IsWellFormed syste
               subst (λ (p : Port). IsPlain p.name) event.is (event_plain event.one event.has)
         ])
 
-    -- An input of the plain form has a name of the unit's, or tells of an event.
+    -- An input of the plain form has a name of the unit, or says whether an event occurs.
     abbrev Comes : List ℕ → Type 0
     Comes name = Has (input_names unit) name ⊎ ((event : EventIn) × Has unit.events_in event × (name ≡ presence_name event.name))
 
@@ -331,7 +331,7 @@ module _ (system : System) (ranged : IsRanged system) (kept : IsWellFormed syste
       (plain_unit_is system ranged kept d.instance d.unit d.unit_is) (becomes d.unit d.output d.has).whole in
       (plain_one d.unit d.output, ap (output_at plain) (sym d.is) ∙ made, ap (λ (p : Port). p.ty) same)
 
-  -- An input of the plain form: one of the unit's, one that tells of an event, or one with its word.
+  -- An input of the plain form: one of the unit, one that says whether an event occurs, or one with its word.
   record AskedFor (unit : Unit) (input : Input) : Type 0 where
     port : Port
     has : Has (input_ports unit) port
@@ -371,7 +371,7 @@ module _ (system : System) (ranged : IsRanged system) (kept : IsWellFormed syste
         ]
   ]
 
-  -- A connection of the system, as it stands in the plain form too.
+  -- A connection of the system that is in the plain form too.
   joins_same : (wire : Wire) → Has system.wires wire → (instance : Instance) (unit : Unit) (input : Input) → Has system.instances instance
       → unit_of_instance system instance ≡ Some unit → AskedFor unit input ⊎ TellsOf unit input → wire.to ≡ port_of instance input.name
       → Joins plain wire input
@@ -386,7 +386,7 @@ module _ (system : System) (ranged : IsRanged system) (kept : IsWellFormed syste
   joins_same wire has instance unit input instance_has unit_is (inr tells) to_is =
       absurd (plain_wire system ranged wire has tells.0.name (ap (λ (p : PortName). p.port) to_is ∙ tells.2))
 
-  -- The connection that tells of an event.
+  -- The connection that says whether an event occurs.
   joins_presence : (wire : Wire) → Has system.wires wire → is_event_output system wire.from ≡ true → (instance : Instance) (unit : Unit) (input : Input)
       → Has system.instances instance → unit_of_instance system instance ≡ Some unit → AskedFor unit input ⊎ TellsOf unit input
       → presence_port wire.to ≡ port_of instance input.name → Joins plain (presence_wire wire) input

@@ -1,4 +1,4 @@
--- Outputs of the plain form use the inputs in their needs alone, where those of the system do.
+-- Outputs of the plain form use only the inputs in their needs, where those of the system do.
 use Rattle.std.proofs.Common.{◌≡◌, ℕ, ℤ, zero, suc, Bool, true, false, List, ◌++◌, sym, subst, pos}
 use Rattle.std.specs.List.{AllByRecursion}
 use Rattle.fixed_words.specs.declared.types.Ty.{Ty}

@@ -1,4 +1,4 @@
--- How ports are answered: with their start words inputs are ready to be fed, and the end of the loop gives the answer.
+-- The beginning and the end of the solver: with their start words inputs are ready to be fed, and the end of the loop has the result.
 use Rattle.std.proofs.Common.{◌≡◌, ◌∙◌, ℕ, ◌<◌, Bool, true, ℤ, List, [], ◌∷◌, ◌++◌, length, Some, None, Err, inl, inr, refl, ap, sym, subst, arith}
 use Rattle.std.specs.Prelude.{slice_get, is_some, IfSome}
 use Rattle.std.specs.List.{AllByRecursion, list_all}

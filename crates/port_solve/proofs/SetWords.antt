@@ -1,4 +1,4 @@
--- What inputs have after some were set: the word that was set there, or the one before.
+-- The words of inputs after some were set: the one that was set, or the one before.
 use Rattle.std.proofs.Common.{◌≡◌, ◌∙◌, ◌≢◌, ℕ, ◌<◌, ℤ, pos, List, [], ◌∷◌, length, get_or, set, Option, Some, None, inl, inr, refl, ap, sym, subst, ◌⊎◌, arith}
 use Rattle.std.proofs.lemmas.Bool.Decides.{eqb_tells}
 use Rattle.std.proofs.lemmas.List.{get_or-set_same, get_or-set_other, length-set}
@@ -26,7 +26,7 @@ same_or_other one other = elim (eqb_tells one.instance other.instance) [
   | inr other_instance ↦ inr (λ is. other_instance.1 (ap (λ (at : InputAt). at.instance) is))
 ]
 
--- The input is there.
+-- The input exists.
 pub record IsThere (inputs : List (List ℤ)) (at : InputAt) : Type 0 where
   pub instance : at.instance < length inputs
   pub input : at.input < length (get_or inputs at.instance [])
@@ -71,7 +71,7 @@ pub shape_after : (run : Composition) (starts : List StartWord) (inputs : List (
 shape_after run [] inputs shape = shape
 shape_after run (first ∷ starts) inputs shape = shape_after run starts (set_at inputs first.at first.word) (shape_set run inputs first.at first.word shape)
 
--- ---- Inputs with a source are there
+-- ---- Inputs with a source exist
 
 pub record SourceIn (run : Composition) (inputs : List (List ℤ)) (at : InputAt) (source : InputSource) : Type 0 where
   pub member : Member
@@ -104,7 +104,7 @@ is_there run inputs at source one_each shape is =
       input = omega (arith, ap length words, from.same, one_each from.member from.member_is, slice_get_within from.member.sources at.input source from.is);
     }
 
--- ---- All that is set
+-- ---- All inputs that are set
 
 module _ (run : Composition)
     (one_each : (at : ℕ) (member : Member) → slice_get run.members at ≡ Some member → length member.sources ≡ length member.component.unit.inputs)
@@ -123,7 +123,7 @@ module _ (run : Composition)
         ]
   ]
 
-  -- The input has the word where each that is set there is it, and one is set or it was there before.
+  -- The input has the word where every word that is set there is this one, and either one is set or the input had it before.
   pub word_after : (starts : List StartWord) (inputs : List (List ℤ)) → HaveInputs run inputs
       → ((start : StartWord) → Has starts start → start.at ≡ at → start.word ≡ word)
       → (word_in inputs at ≡ word) ⊎ ((start : StartWord) × Has starts start × (start.at ≡ at)) → word_in (with_words inputs starts) at ≡ word

@@ -1,4 +1,4 @@
--- Where all outputs were worked out, the port assignment is told, and the inputs have their words.
+-- When all outputs were computed, the result is the port assignment, and the inputs have their words.
 use Rattle.std.proofs.Common.{◌≡◌, ◌∙◌, ℕ, zero, suc, ◌<◌, Bool, true, false, ℤ, pos, List, [], ◌∷◌, ◌++◌, length, take, drop, get_or, Option, Some, None, refl}
 use Rattle.std.proofs.Common.{ap, sym, subst, arith, append_assoc}
 use Rattle.std.proofs.lemmas.List.{length-map, append-nil}
@@ -48,7 +48,7 @@ next_place run order k is_order within = next_of run (take k order) order k with
 
 -- ---- The start
 
--- With start words alone the front is empty.
+-- With only start words the prefix is empty.
 pub start_front : (run : Composition) (right told : Ports) (inputs : List (List ℤ)) → HaveTheirWords run [] inputs → HaveInputs run inputs
     → IsFront run right [] told inputs
 start_front run right told inputs have shape = record { words = tt; fed = fed; shape = shape }

@@ -1,4 +1,4 @@
--- What is run of a judged system is sound.
+-- The plain form of a judged system is sound.
 use Rattle.std.proofs.Common.{inl, inr, sym, subst}
 use Rattle.std.specs.Prelude.{◌==◌, if◌then◌else◌}
 use Rattle.port_solve.specs.Sound.{IsSound, RunsAreSound}

@@ -1,5 +1,5 @@
--- Sound runs: connections give words of the type that is asked for, and outputs use the inputs in their needs alone. What is
--- run of a well-formed system is sound.
+-- Sound runs: each connection gives words of the input's type, and each output uses only the inputs in its needs. The plain
+-- form of a well-formed system is sound.
 use Rattle.std.specs.Prelude.{◌≡◌, ℕ, true, false, ℤ, List, map, length, zip, slice_get, Some, IfSome}
 use Rattle.std.specs.List.{AllByRecursion, flat_map}
 use Rattle.fixed_words.specs.Types.{lowest, highest, is_word_of}
@@ -14,7 +14,7 @@ use Rattle.unit_tree.specs.declared.unit.Input.{Input}
 abbrev pub types_of_places : Composition → List Ty
 types_of_places run = flat_map (λ member. map (λ output. output.ty) member.component.unit.outputs) run.members
 
--- The word is one of the type of the output at a place.
+-- The word has the type of the output at a place.
 abbrev pub IsWordOf : Composition → ℕ → ℤ → Type 0
 IsWordOf run place word = IfSome (slice_get (types_of_places run) place) (λ ty. is_word_of ty word ≡ true)
 
@@ -22,8 +22,8 @@ IsWordOf run place word = IfSome (slice_get (types_of_places run) place) (λ ty.
 abbrev pub HaveSameWords : Ty → Ty → Type 0
 HaveSameWords one other = (lowest one ≡ lowest other) × (highest one ≡ highest other)
 
--- The source of an input gives words of its type: its start word is one, and so are those of the output that it is connected
--- to.
+-- The source of an input gives words of its type: the start word has that type, and so has each word of the output that it
+-- is connected to.
 abbrev pub Suits : List Ty → Input × InputSource → Type 0
 Suits types (input, Start word) = is_word_of input.ty word ≡ true
 Suits types (input, AtPlace place) = (ty : Ty) × (slice_get types place ≡ Some ty) × HaveSameWords ty input.ty
@@ -37,6 +37,6 @@ pub record IsSoundMember (types : List Ty) (member : Member) : Type 0 where
 abbrev pub IsSound : Composition → Type 0
 IsSound run = AllByRecursion (IsSoundMember (types_of_places run)) run.members
 
--- What is run of a system in range that is well-formed is sound.
+-- The plain form of a system that is in range and well-formed is sound.
 abbrev pub RunsAreSound : Type 0
 RunsAreSound = (system : System) → IsRanged system → IsWellFormed system → IsSound (run_of system)

@@ -6,7 +6,7 @@ ghost use Rattle.unit_tree.specs.Given.{IsInputWord};
 
 use unit_tree::{Gets, InputAt, StartWord};
 
-/// Sets inputs, each to its word.
+/// Sets each of some inputs to its word.
 pub(crate) fn set_words<G: Gets>(gets: &mut G, starts: &[StartWord])
     requires { AllByRecursion (λ start. IsInputWord (run_of (G.system gets.old)) start.at.instance start.at.input start.word) starts.now }
     ensures inputs { G.inputs gets.new ≡ with_words (G.inputs gets.old) starts.now }
@@ -18,7 +18,7 @@ pub(crate) fn set_words<G: Gets>(gets: &mut G, starts: &[StartWord])
     }
 }
 
-/// Sets inputs to one word.
+/// Sets all of some inputs to one word.
 pub(crate) fn set_all<G: Gets>(gets: &mut G, feeds: &[InputAt], word: i64)
     requires { AllByRecursion (λ at. IsInputWord (run_of (G.system gets.old)) at.instance at.input word) feeds.now }
     ensures inputs { G.inputs gets.new ≡ with_words (G.inputs gets.old) (all_with word feeds.now) }

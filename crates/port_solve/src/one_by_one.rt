@@ -1,4 +1,4 @@
-//! Ports one by one, for who has words of some outputs from elsewhere.
+//! Ports solved one by one, for a caller that gets words of some outputs from elsewhere.
 ghost use Rattle.std.specs.Prelude.{◌≡◌, ◌<◌, ℤ, List, [], length, slice_get, slice_set, Some, IfSome};
 ghost use Rattle.port_solve.specs.Solved.{HaveStates, HaveInputs, HaveTheirWords, with_words, all_with, ports_told, given_there};
 ghost use Rattle.port_solve.specs.Sound.{IsWordOf};
@@ -11,8 +11,8 @@ use crate::outputs::outcome;
 use fixed_words::Fault;
 use unit_tree::{Checked, Gets, Order};
 
-/// Sets each input that nothing is connected to, to its start word, and no other. Inputs then have their words as far as none of
-/// an output is known.
+/// Sets each input without a connection to its start word, and no other input. The inputs then have their words as far as
+/// they are defined while no output is known.
 pub fn set_starts<G: Gets>(order: &Order, checked: &Checked, gets: &mut G)
     requires order { IsOrderOf (run_of checked.now) order.now }
     requires system { G.system gets.old ≡ checked.now }
@@ -23,15 +23,15 @@ pub fn set_starts<G: Gets>(order: &Order, checked: &Checked, gets: &mut G)
     ensures states { G.states gets.new ≡ G.states gets.old }
     ensures system { G.system gets.new ≡ G.system gets.old }
 {
-    // What a judged system keeps is known by the clauses of this call alone.
+    // Called for its clauses, which state what holds of a judged system.
     let _ = checked.system();
     set_words(gets, order.routes().starts.as_slice());
 }
 
-/// Asks the output at a place for its word. The answer is none where one that it needs is not known.
+/// Computes the word of the output at a place. Returns `None` where an output that it needs is not known.
 ///
-/// `known` tells of each output whether its word is, by its place. Whatever the known words are: where inputs have them, the answer
-/// is the one that these words ask for.
+/// `known` says for each output, by its place, whether its word is known. The result is the one that the known words
+/// determine, for any words that the inputs have.
 pub fn ask<G: Gets>(
     order: &Order,
     checked: &Checked,
@@ -50,7 +50,7 @@ pub fn ask<G: Gets>(
     ensures states { G.states gets.new ≡ G.states gets.old }
     ensures system { G.system gets.new ≡ G.system gets.old }
 {
-    // What a judged system keeps is known by the clauses of this call alone.
+    // Called for its clauses, which state what holds of a judged system.
     let _ = checked.system();
     outcome(
         gets,
@@ -59,8 +59,8 @@ pub fn ask<G: Gets>(
     )
 }
 
-/// Takes in a word of the output at a place: the inputs that it feeds are set to it, and no other. Where inputs had the words of
-/// some ports, they have those of the ports with this word more.
+/// Accepts a word of the output at a place: sets the inputs that the output feeds to it, and no others. Where the inputs had
+/// the words for some known ports, they now have those for these ports and this one.
 pub fn feed<G: Gets>(order: &Order, checked: &Checked, gets: &mut G, place: u32, word: i64)
     requires order { IsOrderOf (run_of checked.now) order.now }
     requires system { G.system gets.old ≡ checked.now }
@@ -73,7 +73,7 @@ pub fn feed<G: Gets>(order: &Order, checked: &Checked, gets: &mut G, place: u32,
     ensures states { G.states gets.new ≡ G.states gets.old }
     ensures system { G.system gets.new ≡ G.system gets.old }
 {
-    // What a judged system keeps is known by the clauses of this call alone.
+    // Called for its clauses, which state what holds of a judged system.
     let _ = checked.system();
     let route = &order.routes().outputs.as_slice()[place as usize];
     set_all(gets, route.feeds.as_slice(), word);

@@ -9,14 +9,14 @@ use crate::inputs::set_all;
 use fixed_words::Fault;
 use unit_tree::{Gets, Route};
 
-/// A fault of an output, which is told by its place.
+/// A fault of an output, which is given by its place.
 #[derive(Clone, Copy)]
 pub(crate) struct Faulted {
     pub(crate) place: u32,
     pub(crate) fault: Fault,
 }
 
-/// Whether the output at a place is known.
+/// Returns whether the output at a place is known.
 fn is_known(known: &[bool], place: u32) -> bool
     ensures { result ≡ slice_index_or known.now place false }
 {
@@ -26,14 +26,14 @@ fn is_known(known: &[bool], place: u32) -> bool
     }
 }
 
-/// Whether all of some outputs are known.
+/// Returns whether all of some outputs are known.
 fn are_known(known: &[bool], places: &[u32]) -> bool
     ensures { result ≡ list_all (λ place. slice_index_or known.now place false) places.now }
 {
     places.iter().all(|place| is_known(known, *place))
 }
 
-/// What an output gives, where all that it needs are known.
+/// Computes an output: its word or its fault. `None` where an output that it needs is not known.
 pub(crate) fn outcome<G: Gets>(
     gets: &mut G,
     route: &Route,
@@ -52,7 +52,7 @@ pub(crate) fn outcome<G: Gets>(
     }
 }
 
-/// Works out the output at a place, and sets the inputs that it feeds. The answer is its fault, where it has one.
+/// Computes the output at a place, and sets the inputs that it feeds. Returns its fault, where it has one.
 pub(crate) fn work_out<G: Gets>(
     gets: &mut G,
     route: &Route,
@@ -91,7 +91,7 @@ pub(crate) fn work_out<G: Gets>(
     }
 }
 
-/// Takes in a fault, where there is one: `first` stays the first by place.
+/// Records a fault, where there is one: `first` is then the first fault by place.
 pub(crate) fn note(first: &mut Option<Faulted>, place: u32, fault: Option<Fault>)
     ensures { first.new ≡ noted first.old place fault }
 {

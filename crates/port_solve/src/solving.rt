@@ -14,8 +14,8 @@ use crate::outputs::{Faulted, note, work_out};
 use fixed_words::Fault;
 use unit_tree::{Checked, Gets, Order, Routes};
 
-/// The fault of an output, which is told by the number of its instance and its own number there. Both count from 0, in the
-/// plain form of the system, where an event output is two.
+/// The fault of an output, which is given by the number of its instance and its number in the instance. Both count from 0
+/// in the plain form of the system, in which an event output is two outputs.
 #[derive(Clone, Copy, Debug, PartialEq, Eq)]
 pub struct PortFault {
     pub instance: u32,
@@ -23,7 +23,7 @@ pub struct PortFault {
     pub fault: Fault,
 }
 
-/// Works out all outputs in their order. The answer is the first fault by place, where there is one.
+/// Computes all outputs in their order. Returns the first fault by place, where there is one.
 fn work_out_all<G: Gets>(
     gets: &mut G,
     order: &Order,
@@ -53,7 +53,7 @@ fn work_out_all<G: Gets>(
     first
 }
 
-/// The fault of the output at a place.
+/// Returns the fault of the output at a place.
 fn fault_at(routes: &Routes, faulted: Faulted) -> PortFault
     requires { faulted.place < length routes.now.outputs }
     ensures { IfSome (slice_get routes.now.outputs faulted.place) (λ route.
@@ -67,12 +67,12 @@ fn fault_at(routes: &Routes, faulted: Faulted) -> PortFault
     }
 }
 
-/// Solves the ports of a system for the states that its components have: each output is worked out once, in the order. Each
-/// input whose word is defined is set to it; where nothing is connected to an input, its word is its start word.
+/// Solves the ports of a system for the states of its components. Computes each output once, in the order. Sets each input
+/// whose word is defined; an input without a connection gets its start word.
 ///
-/// `ports` and `known` have one place for each output. Whether an output is defined is put into `known`, and where it is
-/// its word into `ports`. [`PortFault`] where some output is undefined: it is the fault of the first one, by instance and
-/// then by declaration, that faults while all it needs is defined.
+/// `ports` and `known` have one element for each output. The call writes to `known` whether the output is defined and, where
+/// it is, its word to `ports`. It fails with [`PortFault`] where some output is undefined: the fault of the first output, by
+/// instance and then by declaration, that faults while all that it needs is defined.
 pub fn solve<G: Gets>(
     order: &Order,
     checked: &Checked,
@@ -95,7 +95,7 @@ pub fn solve<G: Gets>(
     ensures states { G.states gets.new ≡ G.states gets.old }
     ensures system { G.system gets.new ≡ G.system gets.old }
 {
-    // What a judged system keeps is known by the clauses of this call alone.
+    // Called for its clauses, which state what holds of a judged system.
     let _ = checked.system();
     set_starts(order, checked, gets);
     match work_out_all(gets, order, ports, known) {

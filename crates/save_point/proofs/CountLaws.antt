@@ -66,7 +66,7 @@ pub counts_all : (counts : List ℕ) (states : List (List ℤ)) (place : ℕ) �
     → take place counts ≡ map length (take place states) → counts ≡ map length states
 counts_all counts states place past all kept = sym (take_all place counts past) ∙ kept ∙ ap (map length) (take_all place states all)
 
--- one that is another number
+-- Where all counts are right, the one at a place is the length of the state there.
 pub counts_differ : (counts : List ℕ) (states : List (List ℤ)) (place : ℕ) (words : List ℤ) → slice_get states place ≡ Some words
     → counts ≡ map length states → get_or counts place 0 ≡ length words
 counts_differ counts states place words there same =
@@ -76,7 +76,7 @@ counts_differ counts states place words there same =
         → slice_get (map length states) place ≡ Some (length words)
     at_mapped states place words there = slice_get-map length states place ∙ ap (option_map length) there
 
--- as many counts as members
+-- As many counts as members.
 pub as_many : (r : RunState) (counts : List ℕ) (instances : ℕ) → Stands r → instances ≡ length r.plan.run.members → counts ≡ map length r.stand.at.states
     → length counts ≡ instances
 as_many r counts instances stands is same =

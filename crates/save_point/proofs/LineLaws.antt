@@ -1,4 +1,4 @@
--- Lines at the front of a text.
+-- Lines at the beginning of a text.
 use Rattle.std.proofs.Common.{◌≡◌, ℕ, ◌≤◌, List, [], ◌∷◌, ◌++◌, length, length-append, inl, inr, Option, Some, None}
 use Rattle.std.proofs.Common.{refl, sym, ap, subst, ◌∙◌, arith}
 use Rattle.std.specs.Prelude.{◌⊎◌, codes, decimal}
@@ -46,14 +46,14 @@ first_line_long text line rest is = by is.cut
     by (inl p) = omega (arith, ap length p, length-append is.whole (10 ∷ rest))
     by (inr p) = omega (arith, ap length p.1)
 
--- an empty text has none
+-- An empty text has no line.
 pub no_first_line : (line rest : List ℕ) → IsFirstLine [] line rest → ⊥
 no_first_line line rest is = differ is.whole (lines_of rest) is.first
   where
     differ : (whole : List ℕ) (others : List (List ℕ)) → [] ≡ whole ∷ others → ⊥
     differ whole others e = cc
 
--- a text without a line, and one with another, lack a line of the form
+-- A text without a line, and one with another line, lack a line of the form.
 pub lacks_all : (IsForm : List ℕ → Type 0) (text : List ℕ) → text ≡ [] → LacksLine IsForm text
 lacks_all IsForm text none line rest is form = no_first_line line rest (subst (λ t. IsFirstLine t line rest) none is)
 

@@ -1,4 +1,4 @@
--- Numbers and words by their texts.
+-- The texts of numbers and words.
 use Rattle.std.proofs.Common.{◌≡◌, ℕ, suc, ◌^◌, ◌<◌, ◌≤◌, ◌==◌, Bool, true, false, cond, ℤ, pos, negsuc, neg_ℤ, List, [], ◌∷◌, Option, Some, None, Result, Ok, Err}
 use Rattle.std.proofs.Common.{refl, sym, ap, subst, ◌∙◌, arith, decimal, Bor, SFits, w64}
 use Rattle.std.specs.Prelude.{◌&&◌, nat_le, MatchResult}
@@ -22,7 +22,7 @@ use Rattle.text_laws.proofs.WordTexts.{unsigned_value, word_bound, word_fits, wo
 use Rattle.save_point.specs.Reading.{IsNumberText, IsWordText, Tells, is_inside, word_in}
 use Rattle.save_point.specs.SavedTexts.{number_limit}
 
--- ---- What is told once
+-- ---- What has only one text
 
 pub told_same : {A : Type 0} (Is : A → Type 0) → ((x y : A) → Is x → Is y → x ≡ y) → (one other : Option A) → Tells one Is → Tells other Is → one ≡ other
 told_same Is once None None on_one on_other = refl
@@ -94,7 +94,7 @@ word_tells_by bytes (Some word) is = word_told bytes word is
 pub word_tells : (bytes : List ℕ) → Tells (word_in bytes) (IsWordText bytes)
 word_tells bytes = word_tells_by bytes (word_in bytes) refl
 
--- bytes that are parsed as nothing, as the word of another text, and as the word
+-- Bytes that are parsed as no word, as a word with another text, and as a word with this text.
 pub word_unread : (bytes : List ℕ) (parsed : Option ℤ) → ((word : ℤ) → is_word_of Int64 word ≡ true → bytes ≡ signed_decimal word → parsed ≡ Some word)
     → parsed ≡ None → None ≡ word_in bytes
 word_unread bytes parsed parses none =

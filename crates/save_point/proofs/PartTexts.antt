@@ -1,4 +1,4 @@
--- The parts of bytes between spaces, and the states that they tell.
+-- The parts of bytes between spaces, and the states that they spell.
 use Rattle.std.proofs.Common.{◌≡◌, ℕ, ◌+◌, ◌==◌, Bool, true, false, cond, not, ℤ, List, [], ◌∷◌, ◌++◌, map, length, take, drop, Option, Some, None}
 use Rattle.std.proofs.Common.{refl, sym, ap, ap₂, subst, ◌∙◌, arith, decimal, one-add, append-nil}
 use Rattle.std.specs.Prelude.{◌&&◌, nat_lt}
@@ -30,7 +30,7 @@ parts_case : (byte : ℕ) (bytes : List ℕ) (is : Bool) (count : ℕ) → parts
 parts_case byte bytes true count later = refl
 parts_case byte bytes false count later = rw (one-add count) (ap (onto_first byte) later)
 
--- the first part, and then the others
+-- The first part, and then the others.
 pub parts_cut : (bytes : List ℕ) → parts_of bytes ≡ first_part bytes ∷ parts_in (other_parts bytes)
 parts_cut [] = refl
 parts_cut (byte ∷ bytes) = parts_case byte bytes (byte == 32) (prefix_len is_inside bytes) (parts_cut bytes)
@@ -57,7 +57,7 @@ split_front (byte ∷ part) others inside =
 abbrev Fit : List ℤ → Type 0
 Fit words = AllByRecursion (λ word. is_word_of Int64 word ≡ true) words
 
--- the parts of a name and words, each behind a space
+-- The parts of a name and words, each after a space.
 pub parts_of_words : (name : List ℕ) (words : List ℤ) → list_all is_inside name ≡ true → Fit words
     → parts_of (name ++ spaced_words words) ≡ name ∷ map signed_decimal words
 parts_of_words name [] inside fit = ap parts_of (append-nil name) ∙ split_alone name inside
@@ -116,7 +116,7 @@ name_inside (first ∷ others) word =
     inside : (byte : ℕ) → is_letter byte ≡ true → is_inside byte ≡ true
     inside byte letter = grind (arith, nat_tests)
 
--- What parts tell that are a state's.
+-- What holds of parts that are a state's.
 pub record AreStateParts (parts : List (List ℕ)) (state : NamedState) : Type 0 where
   pub is_state : IsState state
   pub are : parts ≡ state.name ∷ map signed_decimal state.words
@@ -140,7 +140,7 @@ state_told (name ∷ parts) state is = state_by name parts state (is_word name) 
 pub state_asked : (state : NamedState) → IsState state → state_in (state.name ∷ map signed_decimal state.words) ≡ Some state
 state_asked state is_state = rw (is_word_asked state.name is_state.name_is, words_asked state.words is_state.words_fit) refl
 
--- the bytes behind `state ` of the line of a state, and of no other
+-- The bytes after `state ` of the line of a state, and of no other.
 pub state_bytes_told : (bytes : List ℕ) (state : NamedState) → state_in (parts_of bytes) ≡ Some state
     → IsState state × (bytes ≡ state.name ++ spaced_words state.words)
 state_bytes_told bytes state is =
@@ -153,7 +153,7 @@ state_bytes_asked state is_state =
 
 -- ---- Points
 
--- the parts around the first space
+-- The parts around the first space.
 cut_at_space : (part others : List ℕ) → list_all is_inside part ≡ true
     → (first_part (part ++ 32 ∷ others) ≡ part) × (other_parts (part ++ 32 ∷ others) ≡ Some others)
 cut_at_space part others inside =
@@ -172,7 +172,7 @@ space_between bytes others is =
     ∙ ap (join_with_byte 32) (parts_cut bytes ∙ ap (λ rest. first_part bytes ∷ parts_in rest) is ∙ ap (λ rest. first_part bytes ∷ rest) (parts_cut others))
     ∙ ap (λ rest. first_part bytes ++ 32 ∷ rest) (ap (join_with_byte 32) (sym (parts_cut others)) ∙ join_with_byte-slice_split 32 others)
 
--- What the parts of the text of a point are.
+-- The parts of the text of a point.
 record AreOfPoint (bytes : List ℕ) (point : Point) : Type 0 where
   ticks : first_part bytes ≡ decimal point.t
   steps : other_parts bytes ≡ Some (decimal point.n)
@@ -214,7 +214,7 @@ points_told bytes = by (number_told (first_part bytes)).0 (number_told (first_pa
     by (Some t) ticks None there = (None, no_space bytes there)
     by (Some t) ticks (Some others) there = steps_by t others (number_told others).0 ticks there (number_told others).1
 
--- a text is that of one point
+-- A text is that of at most one point.
 pub point_once : (bytes : List ℕ) (one other : Point) → IsPointText bytes one → IsPointText bytes other → one ≡ other
 point_once bytes one other is also =
     let first = of_point bytes one is in

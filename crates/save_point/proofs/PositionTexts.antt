@@ -124,7 +124,7 @@ first_by : (meets : Bool) (others rest : List ℕ) → get_or ((cond meets (code
 first_by true others rest = refl
 first_by false others rest = refl
 
--- it begins with `c`
+-- It begins with `c`.
 canonical_first : (system : System) → get_or (canonical_text system) 0 0 ≡ 99
 canonical_first system =
     let others = tokens_text (whole system.version ∷ []) in
@@ -144,7 +144,7 @@ front_first : (line rest : List ℕ) → get_or line 0 0 ≡ 115 → get_or (lin
 front_first [] rest is = absurd (omega (arith, is))
 front_first (byte ∷ line) rest is = is
 
--- the line of a state begins with `s`
+-- The line of a state begins with `s`.
 state_first : (text line rest more : List ℕ) → IsFirstLine text line rest → line ≡ state_front ++ more → get_or text 0 0 ≡ 115
 state_first text line rest more is begins = by is.cut
   where

@@ -1,4 +1,4 @@
--- One position of a number, and one that fits what was saved, or none.
+-- At most one position has a number, and at most one fits what was saved.
 use Rattle.std.proofs.Common.{◌≡◌, ℕ, leb, zero, suc, ◌<◌, ◌≤◌, Bool, true, false, ℤ, List, [], ◌∷◌, ◌++◌, map, length, length-append}
 use Rattle.std.proofs.Common.{Option, Some, None, ◌⊎◌, inl, inr, refl, sym, ap, subst, ◌∙◌, arith}
 use Rattle.std.specs.Str.{bytes_eq}
@@ -24,7 +24,7 @@ use Rattle.unit_tree.specs.declared.unit.State.{State}
 
 -- ---- A place in a list
 
--- what stands at a place, with what stands before and behind it
+-- An element at a place, with the elements before and after it.
 record StandsAt {A : Type 0} (xs : List A) (place : ℕ) : Type 0 where
   before : List A
   here : A
@@ -47,7 +47,7 @@ stands_at (x ∷ xs) (suc place) = next (stands_at xs place)
     })
     next (inr long) = inr (omega (arith, long))
 
--- two that stand at the same place of a list
+-- Two elements at the same place of a list.
 same_there : {A : Type 0} (ones others : List A) (one other : A) (later behind : List A) → ones ++ (one ∷ later) ≡ others ++ (other ∷ behind)
     → length ones ≡ length others → one ≡ other
 same_there [] [] one other later behind is long = cc
@@ -94,7 +94,7 @@ one_position run number one = record {
 
 -- ---- Positions that fit
 
--- a test tells whether something is so
+-- A test decides whether something holds.
 by_test : (P : Type 0) (told : Bool) → (told ≡ true → P) × (P → told ≡ true) → P ⊎ (P → ⊥)
 by_test P true tells = inl (tells.0 refl)
 by_test P false tells = inr (λ is. false_is_true (tells.1 is))
@@ -148,7 +148,7 @@ module _ (run : Composition) (row : ℕ) (point : Point) (words : List ℤ) wher
       stop (inr past) = inr (λ may. past may.stop)
 
 module _ (plan : Planned) (saved : Saved) where
-  -- the only position that may fit
+  -- The only position that may fit.
   abbrev there : Position
   there = position_with saved.point (parted plan.run.members saved.states) saved.row
 

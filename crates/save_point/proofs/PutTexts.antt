@@ -1,4 +1,4 @@
--- Lines that are put one behind the other.
+-- Lines that are appended one after the other.
 use Rattle.std.proofs.Common.{◌≡◌, ℕ, ◌+◌, ◌<◌, ◌≤◌, ℤ, List, [], ◌∷◌, ◌++◌, map, length, drop, Some, get_or, sym, ap, ap₂, subst, ◌∙◌, append_assoc, append-nil}
 use Rattle.std.specs.Prelude.{slice_get, codes, decimal}
 use Rattle.std.proofs.lemmas.List.{drop_all, drop_more}
@@ -17,7 +17,7 @@ use Rattle.unit_tree.specs.WellFormed.{IsWellFormed}
 use Rattle.unit_tree.specs.declared.system.Instance.{Instance}
 use Rattle.unit_tree.specs.declared.system.System.{System}
 
--- What stands before the number of a row.
+-- The bytes before the number of a row.
 abbrev title_front : List ℕ
 title_front = title_line ++ 10 ∷ codes "row "
 
@@ -46,7 +46,7 @@ state_there states place words is =
     drop_more states place [] (slice_get_within states place words is)
     ∙ ap (λ state. state ∷ drop (place + 1) states) (get_or_from_slice_get states place words [] is)
 
--- the next line was put
+-- The next line was appended.
 pub put_next : (instances : List Instance) (states : List (List ℤ)) (place : ℕ) (instance : Instance) (words : List ℤ) (text next whole : List ℕ)
     → place < length instances → instance ≡ get_or instances place instance → slice_get states place ≡ Some words
     → text ++ lines_left instances states place ≡ whole → next ≡ text ++ (state_line (named (instance.name, words)) ++ 10 ∷ [])
@@ -60,7 +60,7 @@ put_next instances states place instance words text next whole within instance_i
     ap₂ (λ xs ys. ended (map state_line (states_of xs ys))) here (state_there states place words words_are) in
     ap (λ t. t ++ others) next_is ∙ append_assoc text line others ∙ ap (λ t. text ++ t) (sym step) ∙ kept
 
--- all were
+-- All lines were appended.
 pub put_all : (instances : List Instance) (states : List (List ℤ)) (place : ℕ) (text whole : List ℕ) → length instances ≤ place
     → text ++ lines_left instances states place ≡ whole → text ≡ whole
 put_all instances states place text whole past kept =
@@ -69,7 +69,7 @@ put_all instances states place text whole past kept =
 
 -- ---- The text
 
--- the lines of a row and a point, those of states, and the canonical text, one behind the other
+-- The lines of a row and a point, those of states, and the canonical text, one after the other.
 pub whole_text : (system : System) (at : Position) (start first states all : List ℕ) → first ≡ start ++ ended (title_line ∷ row_line at.number ∷ point_line at.point ∷ [])
     → states ≡ first ++ ended (map state_line (named_states system at)) → all ≡ states ++ canonical_text system → all ≡ start ++ saved_text system at
 unfolding saved_text

@@ -24,7 +24,7 @@ use Rattle.text_tokens.specs.declared.fault.Unread.TheVariants as unread
 abbrev pub state_front : List ℕ
 state_front = codes "state "
 
--- The lines of a row and a point, with others behind them.
+-- The lines of a row and a point, and then others.
 abbrev saved_front : ℕ → Point → List (List ℕ) → List (List ℕ)
 saved_front row point lines = title_line ∷ row_line row ∷ point_line point ∷ lines
 
@@ -40,9 +40,9 @@ fewer_left bytes (Some others) is =
     let long = ap length (space_between bytes others is) in
     omega (arith, long, length-append (first_part bytes) (32 ∷ others))
 
--- ---- Words that were put so far
+-- ---- Words that were read so far
 
--- The words that all parts tell are those that were put, and those that the parts left tell.
+-- The words of all parts are those that were read, and those of the parts that are left.
 pub record PutSoFar (all left : List (List ℕ)) (words now : List ℤ) (count : ℕ) : Type 0 where
   pub front : List ℤ
   pub told : words_in all ≡ option_map (λ others. front ++ others) (words_in left)
@@ -61,7 +61,7 @@ map_more : (front : List ℤ) (word : ℤ) (words : Option (List ℤ))
 map_more front word None = refl
 map_more front word (Some words) = ap Some (sym (append_assoc front (word ∷ []) words))
 
--- the next part tells a word
+-- The next part is a word.
 told_next : (front : List ℤ) (part : List ℕ) (others : List (List ℕ)) (word : ℤ) (told : Option ℤ) → told ≡ Some word
     → option_map (λ all. front ++ all) (option_and_then (λ one. with_word one (words_in others)) told)
     ≡ option_map (λ all. (front ++ (word ∷ [])) ++ all) (words_in others)
@@ -80,7 +80,7 @@ put_next all left others part words now next count word so_far left_is word_is n
   many = omega (arith, so_far.many, length-append so_far.front (word ∷ []));
 }
 
--- a part tells none
+-- A part is not a word.
 pub put_stops : (all left others : List (List ℕ)) (part : List ℕ) (words now : List ℤ) (count : ℕ) → PutSoFar all left words now count
     → left ≡ part ∷ others → word_in part ≡ None → words_in all ≡ None
 put_stops all left others part words now count so_far left_is none =
@@ -129,7 +129,7 @@ puts_state bytes part others names names' counts counts' words words' count part
   words_are = puts.put;
 }
 
--- what an error is that is handed on
+-- An error that is passed on.
 pub handed : {T E : Type 0} (result : Result T E) (found wanted : E) → IsErrAnd result (λ one. one ≡ found) → result ≡ Err wanted → found ≡ wanted
 handed (Ok done) found wanted is same = absurd is
 handed (Err one) found wanted is same = sym is ∙ errs one wanted same
@@ -204,7 +204,7 @@ read_all text rest row point number names counts words numbers so_far no_more = 
     place : (all behind : ℕ) → behind ≤ all → all - behind + behind ≡ all
     place all behind within = omega (arith, within)
 
--- bytes that tell no state are behind the front of no state's line
+-- Bytes that are no state come after the beginning of no state's line.
 pub no_state : (line : List ℕ) → state_in (parts_of line) ≡ None → (state : NamedState) → IsStateLine (state_front ++ line) state → ⊥
 no_state line none state is =
     let same = append_cancel_left state_front line (state.name ++ spaced_words state.words) is.1 in

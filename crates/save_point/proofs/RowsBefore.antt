@@ -13,7 +13,7 @@ no_end None others next there on = refl
 no_end (Some ending) others next there on = absurd (cc)
 
 module _ (run : Composition) where
-  -- a stand from which a run goes on has a row
+  -- A stand from which a run goes on has a row.
   has_no_fault : (here next : Stand) → successor run here.at here.ports ≡ goes next.at → port_fault run here.at.states here.ports ≡ None
   has_no_fault here next on = no_end (port_fault run here.at.states here.ports) _ next.at _ on
 

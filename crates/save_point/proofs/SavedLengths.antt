@@ -58,7 +58,7 @@ module _ (system : System) (ranged : IsRanged system) (kept : IsWellFormed syste
       (filter_map (λ instance. member_with run instance (unit_of_instance run instance)) instances)
       (member_few instance (unit_of_instance run instance) (λ unit is. named_has run.units instance.unit unit is)) (members_few instances)
 
--- So have the states at a position.
+-- This holds of the states at a position.
 pub states_few : (members : List Member) (states : List (List ℤ)) → AllByRecursion (λ (m : Member). length m.component.unit.states ≤ 64) members
     → AllZip (λ (member : Member) state. AreWordsOf member.component.unit.states state) members states
     → AllByRecursion (λ (state : List ℤ). length state ≤ 64) states

@@ -52,7 +52,7 @@ line_there byte text =
 
 -- ---- Whether the first line has a form
 
--- The first line has the form, of this, or the text lacks such a line.
+-- The first line has this form, or the text lacks such a line.
 pub record Found {A : Type 0} (Is : List ℕ → A → Type 0) (text : List ℕ) : Type 0 where
   pub line : List ℕ
   pub rest : List ℕ
@@ -60,7 +60,7 @@ pub record Found {A : Type 0} (Is : List ℕ → A → Type 0) (text : List ℕ)
   pub first : IsFirstLine text line rest
   pub is : Is line value
 
--- What a line may be that has no value, and with what stands behind a front.
+-- A line without a value, and one with bytes after its beginning.
 abbrev IsTitle : List ℕ → List ℕ → Type 0
 IsTitle line more = line ≡ title_line
 
@@ -82,7 +82,7 @@ decide Is each (byte ∷ text) =
     let told = each there.line in
     decide_by Is (byte ∷ text) there.line there.rest told.0 there.is told.1
 
--- what stands behind a front
+-- The bytes after the beginning of a line.
 behind_by : (front line : List ℕ) (same : Bool) → bytes_eq (take (length front) line) front ≡ same → (told : Option (List ℕ)) × Tells told (λ more. line ≡ front ++ more)
 behind_by front line true same = (
   Some (drop (length front) line),
@@ -144,7 +144,7 @@ module _ (text : List ℕ) (row : ℕ) (point : Point) (numbers : AreNumbers row
   abbrev So : List ℕ → ℕ → List (List ℕ) → List ℕ → List ℤ → Type 0
   So rest number names counts words = ReadSoFar text rest row point number names counts words
 
-  -- with what the line of a state tells
+  -- By what the line of a state has.
   state_by : (rest line behind : List ℕ) (number : ℕ) (names : List (List ℕ)) (counts : List ℕ) (words : List ℤ) (told : Option NamedState)
       → So rest number names counts words → IsFirstLine rest (state_front ++ line) behind → state_in (parts_of line) ≡ told
       → ((names' : List (List ℕ)) (counts' : List ℕ) (words' : List ℤ) → So behind (number + 1) names' counts' words' → Answer text) → Answer text
@@ -176,7 +176,7 @@ module _ (text : List ℕ) (row : ℕ) (point : Point) (numbers : AreNumbers row
       line_by rest number names counts words so_far (decide IsBegun (behind_told state_front) rest)
       (λ behind number' names' counts' words' less next. states_from more behind number' names' counts' words' (omega (arith, within, less)) next)
 
--- with what the first line, the second and the third tell
+-- By what the first line, the second and the third have.
 point_by : (text title rest : List ℕ) (row : ℕ) → IsFirstLine text title_line title → row ≤ number_limit → IsFirstLine title (row_line row) rest
     → Decided IsPointLine rest → Answer text
 point_by text title rest row first within second (inl found) =
@@ -202,7 +202,7 @@ answer text = title_by text (decide IsTitle title_told text)
 
 -- ---- And not another
 
--- A text has a title, and then the line of a row, and then that of a point, and behind these stands the rest.
+-- A text has a title, and then the line of a row, and then that of a point, and then this rest.
 record HasTitle (text rest : List ℕ) : Type 0 where
   first : IsFirstLine text title_line rest
 
@@ -377,7 +377,7 @@ broken_once text one other is also =
     has_once text is.row also.row is.point also.point is.states also.states is.rest also.rest (of_broken text one is) (of_broken text other also) in
     is.place ∙ ap (λ (states : List NamedState). length states + 4) same.all_states ∙ sym also.place
 
--- What a text has where it lacks nothing, or lacks less.
+-- A text that lacks none of the first lines, or fewer of them.
 title_of_row : (text : List ℕ) (lacks : LacksRow text) → HasTitle text lacks.begins.0
 title_of_row text lacks = record { first = lacks.begins.1 }
 

@@ -1,4 +1,4 @@
--- A run that goes on by its own steps, and where in the trace it stands then.
+-- A run that goes on by its own steps, and where in the trace it is then.
 use Rattle.std.proofs.Common.{◌≡◌, ℕ, zero, suc, ◌+◌, ◌-◌, ◌*◌, ◌<◌, ◌≤◌, true, false, List, [], ◌∷◌, ◌++◌, length, length-append, inl, inr}
 use Rattle.std.proofs.Common.{refl, sym, ap, subst, ◌∙◌, arith, append_assoc}
 use Rattle.trace_core.proofs.FillLaws.{not_ended}
@@ -20,9 +20,9 @@ use Rattle.unit_tree.specs.Successor.{Position, first_position, ends, successor}
 use Rattle.unit_tree.specs.Trace.{Stand, Follows, Goes, GoesOnFrom, IsPositionOf, IsStand, IsTrace, Reaches}
 use Rattle.unit_tree.specs.declared.ending.Ending.{Ending}
 
--- ---- Phases that are left
+-- ---- Phases that are still to come
 
--- How many phases a stand may have yet.
+-- How many phases may follow at a stand.
 abbrev phases_in : Phase → ℕ
 phases_in (Trial h) = 2
 phases_in (Redo h) = 1
@@ -41,7 +41,7 @@ some_phase (Trial h) going = omega arith
 some_phase (Redo h) going = omega arith
 some_phase (Ended ending) going = absurd (cc)
 
--- What going on keeps, and that it comes to an end.
+-- What stays when the run goes on, and that it ends.
 pub record Nearer (row : ℕ) (old new : RunState) : Type 0 where
   pub planned : new.plan ≡ old.plan
   pub opened : new.opened ≡ old.opened
@@ -91,7 +91,7 @@ settled_nearer row old new settle.Redo before going (due, is) =
       fewer = omega (arith, left_now, tried);
     }
 
--- the same, behind the steps of the phase
+-- The same, after the steps of the phase.
 pub stepped_nearer : (row : ℕ) (old now new : RunState) (told : Settle) → old.stand.at.number < row → is_ended old.phase ≡ false → AreStepsThere old now
     → Settled now new told → Nearer row old new
 stepped_nearer row old now new told before going there settled =
@@ -106,9 +106,9 @@ stepped_nearer row old now new told before going there settled =
       fewer = subst (λ most. phases_left row new < most) (ap (phases_left row) there.is) on.fewer;
     }
 
--- ---- Where a run stands in the trace
+-- ---- The place of a run in the trace
 
--- Some stands were passed from one to another: what follows there goes on from the first.
+-- Some stands were passed between two: what follows the second continues from the first.
 record Passed (run : Composition) (from to : Stand) (count : ℕ) : Type 0 where
   stands : List Stand
   long : length stands ≡ count

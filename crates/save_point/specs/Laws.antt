@@ -23,7 +23,7 @@ pub record SavesOrBreaks (text : List ℕ) : Type 0 where
 abbrev pub TextsSaveOrBreak : Type 0
 TextsSaveOrBreak = (text : List ℕ) → SavesOrBreaks text
 
--- What the saved text of a position saves: the position, and the canonical text as the rest.
+-- What the saved text of a position saves: the position, and after its lines the canonical text.
 abbrev pub saved_of : System → Position → Saved
 saved_of system at = record {
   row = at.number;
@@ -40,28 +40,28 @@ PositionsAreSaved =
     (system : System) (at : Position) → AreNumbers at.number at.point → AllByRecursion IsState (named_states system at)
     → IsSaved (saved_text system at) (saved_of system at)
 
--- What is saved of a position is the position: its saved text saves it, and it is the position of the system's run that fits what was
+-- A position can be saved and resumed: its saved text saves it, and it is the position of the system's run that fits what was
 -- saved. The lines of the position have at most 90,000 bytes.
 pub record CanBeResumed (system : System) (at : Position) : Type 0 where
   pub saved : IsSaved (saved_text system at) (saved_of system at)
   pub fits : FitsSaved (record { system = system; run = run_of system }) (saved_of system at) at
   pub short : length (ended (saved_lines at.number at.point (named_states system at))) ≤ 90000
 
--- So it is with each position of the trace of a system that is judged.
+-- This holds of each position of the trace of a judged system.
 abbrev pub TracesCanBeResumed : Type 0
 TracesCanBeResumed =
     (system : System) (number : ℕ) (at : Position) → IsRanged system → IsWellFormed system → IsPositionOf (run_of system) number at → CanBeResumed system at
 
--- A trace has one position of a number, or none.
+-- A trace has at most one position with a number.
 pub record HasOneOrNone (run : Composition) (number : ℕ) : Type 0 where
   pub some : ((at : Position) × IsPositionOf run number at) ⊎ HasNoPosition run number
   pub once : (one other : Position) → IsPositionOf run number one → IsPositionOf run number other → one ≡ other
 
--- So it is with each number, where a run has one trace.
+-- This holds of each number, where a run has one trace.
 abbrev pub NumbersHaveOnePosition : Type 0
 NumbersHaveOnePosition = (run : Composition) (number : ℕ) → HasOneTrace run → HasOneOrNone run number
 
--- One position fits what was saved, or none.
+-- At most one position fits what was saved.
 pub record FitsOneOrNone (plan : Planned) (saved : Saved) : Type 0 where
   pub some : ((at : Position) × FitsSaved plan saved at) ⊎ FitsNone plan saved
   pub once : (one other : Position) → FitsSaved plan saved one → FitsSaved plan saved other → one ≡ other
@@ -69,6 +69,6 @@ pub record FitsOneOrNone (plan : Planned) (saved : Saved) : Type 0 where
 abbrev pub SavedFitOnce : Type 0
 SavedFitOnce = (plan : Planned) (saved : Saved) → FitsOneOrNone plan saved
 
--- Before a position of a trace there are as many rows as its number says: each position before it has one.
+-- Before a position of a trace there are as many rows as its number: each position before it has a row.
 abbrev pub RowsAreBefore : Type 0
 RowsAreBefore = (run : Composition) (number : ℕ) (at : Position) (of : IsPositionOf run number at) → length (rows_of run of.before) ≡ number

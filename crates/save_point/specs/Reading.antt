@@ -1,4 +1,4 @@
--- How saved texts are read: numbers, words and lines by themselves.
+-- How saved texts are read: numbers, words and single lines.
 use Rattle.std.specs.Prelude.{◌≡◌, ℕ, ◌≤◌, ◌==◌, Bool, true, false, ◌&&◌, not, nat_lt, ℤ, List, [], ◌∷◌, ◌++◌, length, take, drop, decimal, if◌then◌else◌}
 use Rattle.std.specs.Prelude.{Option, Some, None, Result, Ok, Err, ⊤}
 use Rattle.std.specs.Fmt.{signed_decimal}
@@ -20,13 +20,13 @@ use Rattle.text_tokens.specs.declared.fault.Unread.TheVariants as unread
 use Rattle.unit_tree.specs.Tokens.{is_letter, is_word_byte}
 use Rattle.unit_tree.specs.declared.system.Instance.{Instance}
 
--- ---- What is told
+-- ---- Optional results
 
--- What is told is so, and nothing is told only where nothing is.
+-- A result has the property; there is none only where nothing has it.
 abbrev pub Tells : {A : Type 0} → Option A → (A → Type 0) → Type 0
 Tells {A} told Is = MatchOption told ((a : A) → Is a → ⊥) Is
 
--- The bytes are the text of a number within what a saved text may have, and of a word.
+-- The bytes are the text of a number within the bound of saved texts; and the text of a word.
 abbrev pub IsNumberText : List ℕ → ℕ → Type 0
 IsNumberText bytes number = (number ≤ number_limit) × (bytes ≡ decimal number)
 
@@ -39,7 +39,7 @@ IsPointText bytes point = IsWithin point × (bytes ≡ decimal point.t ++ 32 ∷
 
 -- ---- Words of a line
 
--- Whether a byte stands in a word, and not between two.
+-- Whether a byte belongs to a word: it is not a space.
 abbrev pub is_inside : ℕ → Bool
 is_inside byte = not (byte == 32)
 
@@ -51,31 +51,31 @@ parts_of bytes = slice_split (λ byte. byte == 32) bytes
 abbrev pub first_part : List ℕ → List ℕ
 first_part bytes = take (prefix_len is_inside bytes) bytes
 
--- What stands behind a space that comes first.
+-- The bytes after a space, where the first byte is one.
 abbrev pub behind_space : List ℕ → Option (List ℕ)
 behind_space [] = None
 behind_space (space ∷ more) = Some more
 
--- The bytes behind the first space, where there is one.
+-- The bytes after the first space, where there is one.
 abbrev pub other_parts : List ℕ → Option (List ℕ)
 other_parts bytes = behind_space (drop (prefix_len is_inside bytes) bytes)
 
--- The parts of what may be there.
+-- The parts of optional bytes.
 abbrev pub parts_in : Option (List ℕ) → List (List ℕ)
 parts_in None = []
 parts_in (Some bytes) = parts_of bytes
 
--- The word that bytes are the text of.
+-- The word that bytes spell.
 unfoldable pub word_in : List ℕ → Option ℤ
 word_in bytes =
     let word = signed_digits_value 10 bytes in
     if bytes_eq bytes (signed_decimal word) && is_word_of Int64 word then Some word else None
 
--- A word in front of what may be there.
+-- A word before others, where there are others.
 abbrev pub with_word : ℤ → Option (List ℤ) → Option (List ℤ)
 with_word word words = option_map (λ all. word ∷ all) words
 
--- The words that parts are the texts of.
+-- The words that parts spell.
 abbrev pub words_in : List (List ℕ) → Option (List ℤ)
 words_in [] = Some []
 words_in (part ∷ parts) = option_and_then (λ word. with_word word (words_in parts)) (word_in part)
@@ -86,12 +86,12 @@ words_in (part ∷ parts) = option_and_then (λ word. with_word word (words_in p
 abbrev pub state_named : List ℕ → Option (List ℤ) → Option NamedState
 state_named name words = if is_word name then option_map (λ all. record { name = name; words = all }) words else None
 
--- The state that parts are the name and the words of.
+-- The state whose name and words the parts are.
 abbrev pub state_in : List (List ℕ) → Option NamedState
 state_in [] = None
 state_in (name ∷ parts) = state_named name (words_in parts)
 
--- Where the parts are those of a state, its name, the number of its words and its words were put behind others.
+-- Where the parts are those of a state, its name, the number of its words and its words were appended to others.
 pub record PutsState (parts : List (List ℕ)) (names : List (List ℕ)) (counts : List ℕ) (words : List ℤ) (names' : List (List ℕ)) (counts' : List ℕ)
     (words' : List ℤ) : Type 0 where
   pub state : NamedState
@@ -100,7 +100,7 @@ pub record PutsState (parts : List (List ℕ)) (names : List (List ℕ)) (counts
   pub counts_are : counts' ≡ counts ++ (length state.words ∷ [])
   pub words_are : words' ≡ words ++ state.words
 
--- The words that parts are the texts of were put behind others, and are so many.
+-- The words that parts spell were appended to others, and are so many.
 pub record PutsWords (parts : List (List ℕ)) (words words' : List ℤ) (count : ℕ) : Type 0 where
   pub more : List ℤ
   pub told : words_in parts ≡ Some more
@@ -113,14 +113,14 @@ same_names [] instances = length instances == 0
 same_names (name ∷ names) [] = false
 same_names (name ∷ names) (instance ∷ instances) = bytes_eq name instance.name && same_names names instances
 
--- ---- The answer
+-- ---- The result
 
--- What is told of a line of this number that is not read.
+-- The fault for a line of this number that could not be read.
 abbrev pub fault_at : Unread → ℕ → SavedFault
 fault_at unread.NoForm line = faults.Line line
 fault_at unread.NoMemory line = faults.NoMemory
 
--- What reading a text answers is right. Want of memory says nothing.
+-- The result of reading a text is right. Lack of memory says nothing of the text.
 abbrev pub ReadsSaved : List ℕ → Result Saved SavedFault → Type 0
 ReadsSaved text (Ok saved) = IsSaved text saved
 ReadsSaved text (Err (faults.Line number)) = BreaksAtLine text number

@@ -1,4 +1,4 @@
--- Saved texts: lines that tell a position of a run, and behind them the text of the system.
+-- Saved texts: lines with a position of a run, and then the text of the system.
 use Rattle.std.specs.Prelude.{◌≡◌, ◌⊎◌, ℕ, ◌+◌, ◌≤◌, ◌^◌, true, ℤ, List, [], ◌∷◌, ◌++◌, map, zip, length, codes, decimal}
 use Rattle.std.specs.Fmt.{signed_decimal}
 use Rattle.std.specs.List.{AllByRecursion, flat_map}
@@ -28,11 +28,11 @@ title_line = codes "saved 1"
 abbrev pub row_line : ℕ → List ℕ
 row_line row = codes "row " ++ decimal row
 
--- The line of a point: its ticks, and how many steps of length zero led to it.
+-- The line of a point: its ticks, and its index.
 abbrev pub point_line : Point → List ℕ
 point_line point = codes "at " ++ (decimal point.t ++ 32 ∷ decimal point.n)
 
--- Words, each behind a space.
+-- Words, each after a space.
 abbrev pub spaced_words : List ℤ → List ℕ
 spaced_words words = flat_map (λ word. 32 ∷ signed_decimal word) words
 
@@ -62,37 +62,37 @@ named_states system at = states_of system.instances at.states
 abbrev pub ended : List (List ℕ) → List ℕ
 ended lines = flat_map (λ line. line ++ 10 ∷ []) lines
 
--- The saved text of a position of a system: the lines of the position, and behind them the canonical text of the system.
+-- The saved text of a position of a system: the lines of the position, and then the canonical text of the system.
 unfoldable pub saved_text : System → Position → List ℕ
 saved_text system at = ended (saved_lines at.number at.point (named_states system at)) ++ canonical_text system
 
 -- ---- What a text saves
 
--- A text has this first line, without its end, and behind it stands the rest.
+-- A text has this first line, without its end, and then this rest.
 pub record IsFirstLine (text line rest : List ℕ) : Type 0 where
   pub whole : List ℕ
   pub first : lines_of text ≡ whole ∷ lines_of rest
   pub cut : (text ≡ whole ++ 10 ∷ rest) ⊎ ((text ≡ whole) × (rest ≡ []))
   pub without_end : line ≡ without_return whole
 
--- A text begins with these lines, and behind them stands the rest.
+-- A text begins with these lines, and then has this rest.
 abbrev pub BeginsWithLines : List ℕ → List (List ℕ) → List ℕ → Type 0
 BeginsWithLines text [] rest = text ≡ rest
 BeginsWithLines text (line ∷ lines) rest = (behind : List ℕ) × IsFirstLine text line behind × BeginsWithLines behind lines rest
 
--- A text has no first line of this form: it has none at all, or another one.
+-- A text has no first line of this form: it has no line at all, or another one.
 abbrev pub LacksLine : (List ℕ → Type 0) → List ℕ → Type 0
 LacksLine IsForm text = (line rest : List ℕ) → IsFirstLine text line rest → IsForm line → ⊥
 
--- The line of a state may begin so.
+-- A line begins as that of a state does.
 abbrev pub BeginsState : List ℕ → Type 0
 BeginsState line = (more : List ℕ) × (line ≡ codes "state " ++ more)
 
--- The greatest number of a row, of ticks, and of steps of length zero that a saved text may have.
+-- The greatest number that a saved text may have, for a row, for ticks and for an index.
 abbrev pub number_limit : ℕ
 number_limit = 10 ^ 15
 
--- A point is within what a saved text may have, and a row is too.
+-- A point is within the bounds of a saved text, and so is a row.
 pub record IsWithin (point : Point) : Type 0 where
   pub ticks : point.t ≤ number_limit
   pub steps : point.n ≤ number_limit
@@ -101,14 +101,14 @@ pub record AreNumbers (row : ℕ) (point : Point) : Type 0 where
   pub row_within : row ≤ number_limit
   pub point_within : IsWithin point
 
--- A state is one that a saved text may have: its name is a word, a reserved one too, and its words have 64 bits.
+-- A saved text may have this state: its name is a word of the language, perhaps a reserved one, and its words have 64 bits.
 pub record IsState (state : NamedState) : Type 0 where
   pub name_is : IsWord state.name
   pub words_fit : AllByRecursion (λ word. is_word_of Int64 word ≡ true) state.words
 
--- A text is a saved text, and saves this: it begins with the lines of the row, the point and some states, as many as there are. Of
--- the states there are the names, how many words each has, and all words one after the other; the rest is the place in the text
--- behind the lines.
+-- A text is a saved text, and saves this: it begins with the lines of the row, the point and as many states as possible. Of the
+-- states it has the names, how many words each has, and all words one after the other. The rest is the place in the text after
+-- the lines.
 pub record IsSaved (text : List ℕ) (saved : Saved) : Type 0 where
   pub states : List NamedState
   pub behind : List ℕ
@@ -123,7 +123,7 @@ pub record IsSaved (text : List ℕ) (saved : Saved) : Type 0 where
 
 -- ---- Texts that are no saved texts
 
--- The line of some row, point or state.
+-- The line of a title; of some row; of some point; of some state.
 abbrev pub IsTitleLine : List ℕ → Type 0
 IsTitleLine line = line ≡ title_line
 
@@ -136,13 +136,13 @@ IsPointLine line point = IsWithin point × (line ≡ point_line point)
 abbrev pub IsStateLine : List ℕ → NamedState → Type 0
 IsStateLine line state = IsState state × (line ≡ state_line state)
 
--- A text has a title and no line of a row behind it.
+-- A text has a title, and no line of a row after it.
 pub record LacksRow (text : List ℕ) : Type 0 where
   pub rest : List ℕ
   pub begins : BeginsWithLines text (title_line ∷ []) rest
   pub lacks : LacksLine (λ line. (row : ℕ) × IsRowLine line row) rest
 
--- A text has the line of a row, and no line of a point behind it.
+-- A text has the line of a row, and no line of a point after it.
 pub record LacksPoint (text : List ℕ) : Type 0 where
   pub row : ℕ
   pub rest : List ℕ
@@ -150,8 +150,8 @@ pub record LacksPoint (text : List ℕ) : Type 0 where
   pub row_within : row ≤ number_limit
   pub lacks : LacksLine (λ line. (point : Point) × IsPointLine line point) rest
 
--- A text has the lines of a row, of a point and of some states, and then one that begins as the line of a state and is none. It
--- has this number.
+-- A text has the lines of a row, of a point and of some states, and then one that begins as the line of a state and is none.
+-- This line has this number.
 pub record BreaksState (text : List ℕ) (number : ℕ) : Type 0 where
   pub row : ℕ
   pub point : Point
@@ -167,7 +167,7 @@ pub record BreaksState (text : List ℕ) (number : ℕ) : Type 0 where
   pub is_none : (state : NamedState) → IsStateLine line state → ⊥
   pub place : number ≡ length states + 4
 
--- The line of this number, counted from 1, is the first that is lacking or doesn't have the form of its place.
+-- The line of this number, counted from 1, is the first that is missing or doesn't have the form of its place.
 abbrev pub BreaksAtLine : List ℕ → ℕ → Type 0
 BreaksAtLine text number =
     ((number ≡ 1) × LacksLine IsTitleLine text) ⊎ ((number ≡ 2) × LacksRow text) ⊎ ((number ≡ 3) × LacksPoint text) ⊎ BreaksState text number

@@ -3,10 +3,10 @@ ghost use Rattle.std.specs.Prelude.{◌≡◌};
 use fixed_words::NoMemory;
 use thiserror::Error;
 
-/// Why the position of a number was not saved.
+/// Why the position with this number was not saved.
 #[derive(Clone, Copy, Debug, PartialEq, Eq, Error)]
 pub enum SaveFault {
-    /// The trace has no position of this number.
+    /// The trace has no position with this number.
     #[error("no such row")]
     NoRow,
     #[error("no memory")]
@@ -26,7 +26,7 @@ impl From<NoMemory> for SaveFault {
 /// Why a text saves no position.
 #[derive(Clone, Copy, Debug, PartialEq, Eq, Error)]
 pub enum SavedFault {
-    /// The line, counted from 1, is the first that is lacking or doesn't have the form of its place.
+    /// The number of the first line, from 1, that is missing or doesn't have the form of its place.
     #[error("line {line}")]
     Line { line: u32 },
     #[error("no memory")]

@@ -1,17 +1,18 @@
-//! Saved positions: a position of a run as a text, and runs that go on from such a text.
+//! Saved positions: a position of a run as a text, and runs that continue from such a text.
 //!
-//! [`save_text`] puts the saved text of the position of a number in a plan's trace: a few lines that tell its row, its point and the
-//! states of all instances, and behind them the canonical text of the system, so that the text is all that is needed to go on.
-//! [`read_saved`] reads such lines at the front of a text, or tells the first line that isn't as it has to be; the text of the system
-//! behind them is for the reader of the language. [`open_saved`] opens a run of a plan at what was read.
+//! [`save_text`] writes the saved text of the position with a number in a plan's trace. It has a few lines with its row, its point
+//! and the states of all instances, and then the canonical text of the system. So this text is enough to continue the run.
+//! [`read_saved`] reads such lines at the beginning of a text, or returns the first line that is wrong. The reader of the language
+//! reads the text of the system after them. [`open_saved`] opens a run of a plan at what was read.
 //!
-//! Whether the position that is read is on the trace isn't asked: a saved text may have been written by hand.
+//! A position that is read may be off the trace, which no call tests: a saved text may have been written by hand.
 //!
-//! Definitions: `specs/SavedTexts.antt` (the lines, what a text saves, and where it breaks) and `specs/Saving.antt` (what is saved of a
-//! trace, and which position of a plan is meant). `specs/Laws.antt` says that each text saves one position or breaks at one line, and
-//! that the saved text of a position of a trace saves it, and it alone fits what was saved; that a trace has one position of a number or
-//! none, and so many rows before it; and that one position fits or none. `specs/Reading.antt`, which need not be
-//! believed, says how the reading goes about it.
+//! Definitions: `specs/SavedTexts.antt` (the lines, what a text saves, and where it breaks) and `specs/Saving.antt` (what is
+//! saved of a trace, and which position of a plan is meant).
+//!
+//! The laws of `specs/Laws.antt`: each text saves one position or breaks at one line. The saved text of a position of a trace saves
+//! this position, and no other fits what was saved. A trace has at most one position with a number, and so many rows before it.
+//! At most one position fits what was saved. `specs/Reading.antt` describes how the reader proceeds; no promise depends on it.
 #![tactic(auto)]
 
 mod fault;

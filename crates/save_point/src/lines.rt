@@ -1,4 +1,4 @@
-//! Lines at the front of a saved text.
+//! Lines at the beginning of a saved text.
 ghost use Rattle.std.specs.Prelude.{◌≡◌, ℕ, ◌<◌, ◌≤◌, ◌++◌, List, [], length, codes, IfSome};
 ghost use Rattle.std.specs.Option.{MatchOption};
 ghost use Rattle.save_point.specs.Reading.{IsPointText, Tells};
@@ -13,7 +13,7 @@ use unit_tree::Point;
 /// The first line of every saved text.
 const TITLE: &[u8] = b"saved 1";
 
-/// The first line of a text, without its end, and what stands behind it.
+/// Returns the first line of a text, without its end, and the text after it. `None` where the text is empty.
 fn next_line(text: &[u8]) -> Option<(&[u8], &[u8])>
     ensures line { MatchOption result (text.now ≡ []) (λ cut. IsFirstLine text.now cut.0.now cut.1.now) }
     ensures shorter { IfSome result (λ cut. length cut.1.now < length text.now) }
@@ -25,14 +25,14 @@ fn next_line(text: &[u8]) -> Option<(&[u8], &[u8])>
     Some((without_return(line), rest))
 }
 
-/// What stands behind the front of a line, where it begins so.
+/// Returns the bytes of a line after a prefix, where it has the prefix.
 fn behind<'l>(line: &'l [u8], front: &[u8]) -> Option<&'l [u8]>
     ensures { MatchOption result ((more : List ℕ) → line.now ≡ front.now ++ more → ⊥) (λ more. line.now ≡ front.now ++ more.now) }
 {
     line.strip_prefix(front)
 }
 
-/// What stands behind the title.
+/// Returns the text after the title, or `None` where the first line is not the title.
 pub(crate) fn behind_title(text: &[u8]) -> Option<&[u8]>
     ensures { MatchOption result (LacksLine IsTitleLine text.now) (λ rest. IsFirstLine text.now title_line rest.now) }
 {
@@ -40,7 +40,7 @@ pub(crate) fn behind_title(text: &[u8]) -> Option<&[u8]>
     if line == TITLE { Some(rest) } else { None }
 }
 
-/// The row that a line tells.
+/// Returns the row that a line has, or `None` where it is no such line.
 fn row_in(line: &[u8]) -> Option<u64>
     ensures { Tells result (IsRowLine line.now) }
 {
@@ -50,7 +50,7 @@ fn row_in(line: &[u8]) -> Option<u64>
     }
 }
 
-/// The row that the first line of a text tells, and what stands behind it.
+/// Returns the row that the first line of a text has, and the text after it. `None` where it is no such line.
 pub(crate) fn take_row(text: &[u8]) -> Option<(u64, &[u8])>
     ensures { MatchOption result (LacksLine (λ line. (row : ℕ) × IsRowLine line row) text.now)
         (λ told. (told.0 ≤ number_limit) × IsFirstLine text.now (row_line told.0) told.1.now) }
@@ -60,7 +60,7 @@ pub(crate) fn take_row(text: &[u8]) -> Option<(u64, &[u8])>
     Some((row, rest))
 }
 
-/// The point that two numbers tell, which stand behind each other with a space between them.
+/// Returns the point of two numbers with a space between them, or `None` for any other bytes.
 fn point_of(numbers: &[u8]) -> Option<Point>
     ensures { Tells result (IsPointText numbers.now) }
 {
@@ -70,7 +70,7 @@ fn point_of(numbers: &[u8]) -> Option<Point>
     Some(Point { t, n })
 }
 
-/// The point that a line tells.
+/// Returns the point that a line has, or `None` where it is no such line.
 fn point_in(line: &[u8]) -> Option<Point>
     ensures { Tells result (IsPointLine line.now) }
 {
@@ -80,7 +80,7 @@ fn point_in(line: &[u8]) -> Option<Point>
     }
 }
 
-/// The point that the first line of a text tells, and what stands behind it.
+/// Returns the point that the first line of a text has, and the text after it. `None` where it is no such line.
 pub(crate) fn take_point(text: &[u8]) -> Option<(Point, &[u8])>
     ensures { MatchOption result (LacksLine (λ line. (point : Points) × IsPointLine line point) text.now)
         (λ told. IsWithin told.0 × IsFirstLine text.now (point_line told.0) told.1.now) }
@@ -90,7 +90,7 @@ pub(crate) fn take_point(text: &[u8]) -> Option<(Point, &[u8])>
     Some((point, rest))
 }
 
-/// What the first line of a text has behind `state `, where it begins so, and what stands behind the line.
+/// Returns the bytes of the first line of a text after `state `, where the line begins so, and the text after the line.
 pub(crate) fn take_state(text: &[u8]) -> Option<(&[u8], &[u8])>
     ensures line { MatchOption result (LacksLine BeginsState text.now)
         (λ told. IsFirstLine text.now (codes "state " ++ told.0.now) told.1.now) }

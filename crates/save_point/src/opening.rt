@@ -10,7 +10,7 @@ use std::sync::Arc;
 use trace_core::{OpenFault, Plan, Run};
 use unit_tree::{Instance, Name};
 
-/// Whether names are those of instances, one by one.
+/// Returns whether names are those of instances, one by one.
 fn same_names(names: &[Name], instances: &[Instance]) -> bool
     ensures { result ≡ same_names names.now instances.now }
 {
@@ -25,19 +25,19 @@ fn same_names(names: &[Name], instances: &[Instance]) -> bool
     }
 }
 
-/// Whether names are those of instances, in their order.
+/// Returns whether names are those of instances, in their order.
 fn are_names(names: &[Name], instances: &[Instance]) -> bool
     ensures { IsTrue result ↔ (names.now ≡ map (λ instance. instance.name) instances.now) }
 {
     same_names(names, instances)
 }
 
-/// Whether the state of each instance has as many words as counts tell, one count for each.
+/// Returns whether the state of each instance has as many words as its count says.
 fn are_counts(run: &Run, counts: &[u32], instances: u32) -> bool
     requires { instances ≡ length run.now.plan.run.members }
     ensures { IsTrue result ↔ (counts.now ≡ map length run.now.stand.at.states) }
 {
-    // What a run keeps is known by the clauses of this call alone.
+    // Called for its clauses, which state the invariant of a run.
     let _ = run.phase();
     if counts.len() != instances as usize {
         return false;
@@ -50,12 +50,13 @@ fn are_counts(run: &Run, counts: &[u32], instances: u32) -> bool
     true
 }
 
-/// The run of a plan at the position that was read.
+/// Opens the run of a plan at the position that was read.
 ///
 /// # Errors
 ///
-/// [`OpenFault::Misfit`] exactly where a run of the plan may stand at no such position: where the names aren't those of its instances
-/// in their order, the number of an instance's words is another, or [`Run::open_at`] finds none. [`OpenFault::NoMemory`] else.
+/// [`OpenFault::Misfit`] exactly where a run of the plan can be at no such position. Then the names aren't those of its instances in
+/// their order, an instance has another number of words, or [`Run::open_at`] returns the same fault.
+/// [`OpenFault::NoMemory`] where memory is refused.
 pub fn open_saved(alloc: Global, plan: Arc<Plan>, saved: &Saved) -> Result<Run, OpenFault>
     ensures opened { IfOk result (IsOpenedBy plan.value saved.now) }
     ensures stands { IfOk result Stands }

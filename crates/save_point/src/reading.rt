@@ -13,7 +13,7 @@ use text_tokens::Unread;
 use unit_print::is_word;
 use unit_tree::{Name, Point};
 
-/// What a text saves: a position of a run, and the place of the text that stands behind it.
+/// What a text saves: a position of a run, and the place where the text after it begins.
 #[derive(Debug, Drop)]
 pub struct Saved {
     /// The number of the row, from 0.
@@ -25,11 +25,11 @@ pub struct Saved {
     pub counts: List<u32>,
     /// The words of all states, one after the other.
     pub states: List<i64>,
-    /// How many bytes of the text come before what stands behind.
+    /// How many bytes the lines of the position have: the rest of the text begins after them.
     pub rest: u64,
 }
 
-/// Puts the words that the parts of bytes are the texts of behind others, and tells how many they are.
+/// Appends the words that are written in the parts of bytes to others. Returns how many they are.
 fn put_words(parts: Option<&[u8]>, words: &mut List<i64>) -> Result<u32, Unread>
     ensures put { IfOk result (λ count. PutsWords (parts_in (option_map (λ bytes. bytes.now) parts.entry)) words.old words.new count) }
     ensures none { result ≡ Err Unread.NoForm → words_in (parts_in (option_map (λ bytes. bytes.now) parts.entry)) ≡ None }
@@ -51,7 +51,7 @@ fn put_words(parts: Option<&[u8]>, words: &mut List<i64>) -> Result<u32, Unread>
     Ok(count)
 }
 
-/// Puts the state that the parts of bytes are the name and the words of behind others.
+/// Appends a state, whose name and words are written in the parts of bytes, to others.
 fn put_state(
     alloc: Global,
     bytes: &[u8],
@@ -72,7 +72,7 @@ fn put_state(
     Ok(())
 }
 
-/// What is told of a line that is no state.
+/// Returns the fault for a line that is not a state.
 fn at_line(unread: Unread, line: u32) -> SavedFault
     ensures { result ≡ fault_at unread line }
 {
@@ -82,8 +82,8 @@ fn at_line(unread: Unread, line: u32) -> SavedFault
     }
 }
 
-/// What a text saves whose lines before these tell the row and the point. More lines than a fault could name are told as want of
-/// memory.
+/// Returns what a text saves whose lines so far had the row and the point. Where a fault would need a greater number of a line
+/// than it can have, it is reported as lack of memory.
 fn read_states(
     alloc: Global,
     text: &[u8],
@@ -120,12 +120,13 @@ fn read_states(
     })
 }
 
-/// What a text saves: the position that its first lines tell, and the place of what stands behind them, which isn't read.
+/// Returns what a text saves: the position in its first lines, and the place of the text after them, which isn't read.
 ///
 /// # Errors
 ///
-/// [`SavedFault::Line`] exactly where one of the first three lines is lacking or doesn't have its form, or a line behind them that
-/// begins with `state ` is no state. It names the first such line. Want of memory is a free answer.
+/// [`SavedFault::Line`] exactly where one of the first three lines is missing or doesn't have its form, or where a later line
+/// begins with `state ` and is no state. It has the number of the first such line. The call may fail for lack of memory at any
+/// time.
 pub fn read_saved(alloc: Global, text: &[u8]) -> Result<Saved, SavedFault>
     ensures { ReadsSaved text.now result }
 {

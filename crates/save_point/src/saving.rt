@@ -1,4 +1,4 @@
-//! Positions of a trace that are put as texts.
+//! Positions of a trace, written as texts.
 ghost use Rattle.std.specs.Prelude.{◌≡◌, ◌++◌, ◌∷◌, [], length, map, decimal, Err, OnOk, OnErr};
 ghost use Rattle.save_point.specs.SavedTexts.{ended, named, point_line, row_line, saved_text, spaced_words, state_line, states_of, title_line};
 ghost use Rattle.save_point.specs.Saving.{HasNoPosition, PutsPosition};
@@ -13,7 +13,7 @@ use trace_core::{Plan, Run};
 use unit_print::print_system;
 use unit_tree::{Instance, Point};
 
-/// Puts a number behind a text, with these bytes in front and this one behind it.
+/// Appends a number to a text, with these bytes before it and this one after it.
 fn put_number(text: &mut Vec<u8>, front: &[u8], number: u64, end: u8) -> Result<(), NoMemory>
     ensures { OnOk result (text.new.items ≡ text.old.items ++ (front.now ++ (decimal number ++ end ∷ []))) }
 {
@@ -24,7 +24,7 @@ fn put_number(text: &mut Vec<u8>, front: &[u8], number: u64, end: u8) -> Result<
     Ok(())
 }
 
-/// Puts the lines of the title, of a row and of a point behind a text.
+/// Appends the lines of the title, of a row and of a point to a text.
 fn put_point(text: &mut Vec<u8>, row: u64, point: Point) -> Result<(), NoMemory>
     ensures { OnOk result (text.new.items ≡ text.old.items ++ ended (title_line ∷ row_line row ∷ point_line point ∷ [])) }
 {
@@ -33,7 +33,7 @@ fn put_point(text: &mut Vec<u8>, row: u64, point: Point) -> Result<(), NoMemory>
     put_number(text, b"", point.n, b'\n')
 }
 
-/// Puts words behind a text, each behind a space.
+/// Appends words to a text, each after a space.
 fn put_words(text: &mut Vec<u8>, words: &[i64]) -> Result<(), NoMemory>
     ensures { OnOk result (text.new.items ≡ text.old.items ++ spaced_words words.now) }
 {
@@ -45,7 +45,7 @@ fn put_words(text: &mut Vec<u8>, words: &[i64]) -> Result<(), NoMemory>
     Ok(())
 }
 
-/// Puts the line of a state behind a text.
+/// Appends the line of a state to a text.
 fn put_state(text: &mut Vec<u8>, name: &[u8], words: &[i64]) -> Result<(), NoMemory>
     ensures { OnOk result (text.new.items ≡ text.old.items ++ (state_line (named (name.now, words.now)) ++ 10 ∷ [])) }
 {
@@ -56,12 +56,12 @@ fn put_state(text: &mut Vec<u8>, name: &[u8], words: &[i64]) -> Result<(), NoMem
     Ok(())
 }
 
-/// Puts the lines of all states of a run behind a text, each with the name of its instance.
+/// Appends the lines of all states of a run to a text, each with the name of its instance.
 fn put_states(text: &mut Vec<u8>, instances: &[Instance], run: &Run) -> Result<(), NoMemory>
     requires { length instances.now ≡ length run.now.plan.run.members }
     ensures { OnOk result (text.new.items ≡ text.old.items ++ ended (map state_line (states_of instances.now run.now.stand.at.states))) }
 {
-    // What a run keeps is known by the clauses of this call alone.
+    // Called for its clauses, which state the invariant of a run.
     let _ = run.phase();
     for (place, instance) in instances.iter().enumerate() {
         put_state(text, instance.name.as_slice(), run.state(place as u32))?;
@@ -69,26 +69,26 @@ fn put_states(text: &mut Vec<u8>, instances: &[Instance], run: &Run) -> Result<(
     Ok(())
 }
 
-/// Puts the saved text of where a run of the plan stands behind a text.
+/// Appends the saved text of the present position of a run of the plan to a text.
 fn put_stand(alloc: Global, plan: &Plan, run: &Run, text: &mut Vec<u8>) -> Result<(), NoMemory>
     requires { run.now.plan ≡ plan.now }
     ensures { OnOk result (text.new.items ≡ text.old.items ++ saved_text plan.now.system run.now.stand.at) }
 {
     let system = plan.checked().source();
-    // That the system is judged is known by the clauses of this call alone.
+    // Called for its clauses, which state that the system is judged.
     let _ = plan.checked().system();
     put_point(text, run.number(), run.point())?;
     put_states(text, system.instances.as_slice(), run)?;
     print_system(alloc, system, text)
 }
 
-/// Appends the saved text of the position of this number in the plan's trace: of a position that has no row too, as the last one
+/// Appends the saved text of the position with this number in the plan's trace. The position may be the last one, without a row,
 /// where an output faults there.
 ///
 /// # Errors
 ///
-/// [`SaveFault::NoRow`] exactly where the trace has no position of this number. Want of memory is a free answer. After either `out`
-/// is as before.
+/// [`SaveFault::NoRow`] exactly where the trace has no position with this number. The call may fail for lack of memory at any
+/// time. After a failure `out` is as before.
 pub fn save_text(
     alloc: Global,
     plan: &Arc<Plan>,

@@ -5,9 +5,9 @@ ghost use Rattle.trace_core.specs.Runs.{Stands, is_ended};
 use serial_run::step_all;
 use trace_core::{Phase, Run};
 
-/// Goes on until the run stands at the row of this number, or has ended before it. The answer tells whether it stands there.
+/// Goes on until the run is at the row with this number, or has ended before it. Returns whether it is there.
 ///
-/// At the last position an output may fault, so that it has no row. The run stands there too.
+/// At the last position an output may fault, so that it has no row. The run gets there too.
 pub(crate) fn go_on(run: &mut Run, instances: u32, row: u64) -> bool
     requires instances { instances ≡ length run.old.plan.run.members }
     requires before { run.old.stand.at.number ≤ row }
@@ -25,7 +25,7 @@ pub(crate) fn go_on(run: &mut Run, instances: u32, row: u64) -> bool
         step_all(run, instances);
         let _ = run.settle();
     }
-    // What a run keeps is known by the clauses of this call alone.
+    // Called for its clauses, which state the invariant of a run.
     let _ = run.phase();
     true
 }

@@ -1,4 +1,4 @@
-//! Numbers and words of a saved text's lines.
+//! Numbers and words in the lines of a saved text.
 ghost use Rattle.std.specs.Prelude.{◌≡◌, ◌≤◌, ℕ, ℤ, length, decimal, true, Some};
 ghost use Rattle.std.specs.Fmt.{signed_decimal};
 ghost use Rattle.std.specs.List.{prefix_len};
@@ -13,14 +13,14 @@ use itoa::Buffer;
 /// The greatest number that a saved text may have.
 const GREATEST_NUMBER: u64 = 1_000_000_000_000_000;
 
-/// The number that bytes are the text of, perhaps with more in front, as a sign or zeros.
+/// Returns the number that bytes spell, perhaps with a sign or zeros before it. `None` where they spell none.
 fn parse_number(bytes: &[u8]) -> Option<u64>
     ensures { (number : ℕ) → number ≤ number_limit → bytes.now ≡ decimal number → result ≡ Some number }
 {
     str::from_utf8(bytes).ok()?.parse().ok()
 }
 
-/// The number that bytes are the text of, as it is written.
+/// Returns the number that bytes spell in its canonical form, or `None` where they spell none.
 pub(crate) fn number_in(bytes: &[u8]) -> Option<u64>
     ensures { Tells result (IsNumberText bytes.now) }
 {
@@ -33,14 +33,14 @@ pub(crate) fn number_in(bytes: &[u8]) -> Option<u64>
     }
 }
 
-/// The word that bytes are the text of, perhaps with more in front, as a sign or zeros.
+/// Returns the word that bytes spell, perhaps with a sign or zeros before it. `None` where they spell none.
 fn parse_word(bytes: &[u8]) -> Option<i64>
     ensures { (word : ℤ) → is_word_of Int64 word ≡ true → bytes.now ≡ signed_decimal word → result ≡ Some word }
 {
     str::from_utf8(bytes).ok()?.parse().ok()
 }
 
-/// The word that bytes are the text of, as it is written.
+/// Returns the word that bytes spell in its canonical form, or `None` where they spell none.
 pub(crate) fn word_in(bytes: &[u8]) -> Option<i64>
     ensures { result ≡ word_in bytes.now }
 {
@@ -53,7 +53,7 @@ pub(crate) fn word_in(bytes: &[u8]) -> Option<i64>
     }
 }
 
-/// How many bytes come before the first space.
+/// Returns how many bytes come before the first space.
 fn part_length(bytes: &[u8]) -> usize
     ensures length { result ≡ prefix_len is_inside bytes.now }
     ensures within { result ≤ length bytes.now }
@@ -61,7 +61,7 @@ fn part_length(bytes: &[u8]) -> usize
     bytes.iter().take_while(|byte| **byte != b' ').count()
 }
 
-/// The bytes up to the first space, and those behind it, where there is one.
+/// Returns the bytes up to the first space and, where there is one, those after it.
 pub(crate) fn cut_part(bytes: &[u8]) -> (&[u8], Option<&[u8]>)
     ensures first { result.0.now ≡ first_part bytes.now }
     ensures others { option_map (λ others. others.now) result.1 ≡ other_parts bytes.now }

@@ -6,18 +6,18 @@ use fixed_words::NoMemory;
 use trace_core::{Run, Settle};
 use trace_rows::Drive;
 
-/// A run whose steps are made here, in the calling thread, one instance after the other.
+/// A driver that makes the steps of its run in the calling thread, one instance after the other.
 #[derive(Drop)]
 pub(crate) struct Alone {
     run: Run,
-    /// How many instances it has.
+    /// How many instances the run has.
     instances: u32,
     ghost each: { instances ≡ length run.plan.run.members },
     ghost none_found: { run.found ≡ 0 },
 }
 
 impl Alone {
-    /// A run that made no step yet.
+    /// Returns the driver of a run that has made no step yet.
     pub(crate) fn new(run: Run, instances: u32) -> Alone
         requires each { instances ≡ length run.plan.run.members }
         requires none_found { run.found ≡ 0 }
@@ -26,7 +26,7 @@ impl Alone {
         Alone { run, instances }
     }
 
-    /// Nothing that it has was made by others.
+    /// No step of the run was made by others.
     pub(crate) fn facts(&self)
         ensures { self.now.run.found ≡ 0 }
     {
@@ -34,7 +34,7 @@ impl Alone {
     }
 }
 
-/// Makes all steps that the phase of a run of so many instances wants, in the calling thread.
+/// Makes all steps that the phase of a run requires, in the calling thread. `instances` is how many instances the run has.
 pub fn step_all(run: &mut Run, instances: u32)
     requires { instances ≡ length run.old.cells }
     ensures there { AreStepsThere run.old run.new }

@@ -12,10 +12,10 @@ use std::sync::Arc;
 use trace_core::{Plan, Run};
 use trace_rows::{CrewFault, Report, put_rest as put_driven, put_trace};
 
-/// Goes on with a run of the plan from where it was opened to its end: puts each row as one piece, and reports how it ended.
+/// Continues a run of the plan from where it was opened to its end. Writes each row as one piece, and reports how it ended.
 ///
-/// [`CrewFault::WriteFault`] where a put failed, and only there; then, or where there is no memory, what was put begins the text
-/// of the rows from there.
+/// Fails with [`CrewFault::WriteFault`] exactly where a write failed. After a failure the written bytes are a prefix of the text of
+/// the rows from there.
 pub fn put_rest<O: Sink>(
     alloc: Global,
     plan: &Plan,
@@ -35,10 +35,11 @@ pub fn put_rest<O: Sink>(
     told
 }
 
-/// Runs a plan in the calling thread: puts the header and each row of the trace as one piece, and reports how the trace ended.
+/// Runs a plan in the calling thread. Writes the header and each row of the trace as one piece, and reports how the trace
+/// ended.
 ///
-/// [`CrewFault::WriteFault`] where a put failed, and only there; then, or where there is no memory, what was put begins the text
-/// of the trace.
+/// Fails with [`CrewFault::WriteFault`] exactly where a write failed. After a failure the written bytes are a prefix of the text of
+/// the trace.
 pub fn run_alone<O: Sink>(alloc: Global, plan: Arc<Plan>, out: &mut O) -> Result<Report, CrewFault>
     ensures whole { IfOk result (ReportsTrace plan.value.system (O.held out.old) (O.held out.new)) }
     ensures alone { IfOk result IsAlone }
@@ -47,7 +48,7 @@ pub fn run_alone<O: Sink>(alloc: Global, plan: Arc<Plan>, out: &mut O) -> Result
     ensures cause { TellsFault (O.faults out.old) (O.faults out.new) result }
     ensures bounded { IfOk result (λ report. report.own ≤ 2 * length plan.value.run.members * report.rows) }
 {
-    // All memory of the run but that of its lines is taken before anything is put.
+    // All memory of the run except for its lines is taken before anything is written.
     let run = Run::open(alloc, Arc::clone(&plan)?)?;
     let mut alone = Alone::new(run, plan.instances());
     let told = put_trace(alloc, &plan, &mut alone, out);

@@ -51,7 +51,7 @@ module _ {X : Type 0} (f : X → List ℤ) where
   get_or-map_slots (slot ∷ slots) zero = refl
   get_or-map_slots (slot ∷ slots) (suc id) = get_or-map_slots slots id
 
-  -- the store of a slab whose values have these words
+  -- The store of a slab whose values have these words.
   pub words_of-stored : (slots : List (Option X)) (id : ℕ) → words_of (stored_from 0 (map (option_map f) slots)) id ≡ option_map f (get_or slots id None)
   words_of-stored slots id = rw zero-add at (words_at 0 (map (option_map f) slots) id) ∙ get_or-map_slots slots id
 
@@ -62,20 +62,20 @@ module _ {X : Type 0} (f : X → List ℤ) where
     pub held : (id : ℕ) → words_of store id ≡ option_map f (get_or slots id None)
     held id = ap (λ s. words_of s id) (sym is) ∙ words_of-stored slots id
 
-    -- a live id is a key of the slab
+    -- A live id is a key of the slab.
     pub slot_of_live : (id key : ℕ) → key ≡ id → IsLive store id → IsSome (get_or slots key None)
     slot_of_live id key same live =
         some_from_map (get_or slots key None) (subst (λ o. IsSome o) (held id ∙ ap (λ k. option_map f (get_or slots k None)) (sym same)) live)
 
-    -- what a key of the slab has, the store has under the id
+    -- The words under a key of the slab are those under the id in the store.
     pub words_in_slot : (id key : ℕ) (x : X) → key ≡ id → get_or slots key None ≡ Some x → words_of store id ≡ Some (f x)
     words_in_slot id key x same found = held id ∙ ap (λ k. option_map f (get_or slots k None)) (sym same) ∙ ap (option_map f) found
 
-    -- the length that is asked of a live id is that of its words
+    -- The length of a live id is that of its words.
     pub length_of_live : (id key count : ℕ) (x : X) → key ≡ id → get_or slots key None ≡ Some x → HasLength store id count → length (f x) ≡ count
     length_of_live id key count x same found asked = asked (f x) (words_in_slot id key x same found)
 
-    -- where one key alone changes, every other id has what it had
+    -- Where only one key changes, every other id keeps its words.
     pub others_kept : (new : List (Option X)) (id key : ℕ) → key ≡ id → ((other : ℕ) → other ≢ key → get_or new other None ≡ get_or slots other None)
         → KeepsOthers store (view new) id
     others_kept new id key same kept other differs =
@@ -90,7 +90,7 @@ module _ {X : Type 0} (f : X → List ℤ) where
   within (slot ∷ slots) zero there = omega arith
   within (slot ∷ slots) (suc key) there = let rest = within slots key there in omega arith
 
-  -- a key that was written
+  -- A key whose value was overwritten.
   pub words_after_set : (slots : List (Option X)) (id key : ℕ) (x : X) → key ≡ id → IsSome (get_or slots key None)
       → words_of (view (set slots key (Some x))) id ≡ Some (f x)
   words_after_set slots id key x same there =
@@ -98,12 +98,12 @@ module _ {X : Type 0} (f : X → List ℤ) where
       ∙ words_of-stored (set slots key (Some x)) key
       ∙ ap (option_map f) (get_or-set_same slots key (Some x) None (within slots key there))
 
--- Words that are written over as many are all that is there.
+-- Words that overwrite as many are all that is left.
 pub put_over : (old new words : List ℤ) (count : ℕ) → new ≡ words → length words ≡ count → take count (new ++ drop (length new) old) ≡ words
 put_over old new words count is long =
     ap (λ n. take n (new ++ drop (length new) old)) (sym (ap length is ∙ long)) ∙ take-append_seam new (drop (length new) old) ∙ is
 
--- One word that is written over one.
+-- One word that overwrites one.
 pub one_word : (old words : List ℤ) → length words ≡ 1 → length old ≡ length words → set old 0 (get_or words 0 (pos 0)) ≡ words
 one_word old [] one same = absurd (omega (arith, one))
 one_word [] (word ∷ words) one same = absurd (let g : 0 ≡ suc (length words) = same in omega (arith, g))

@@ -1,8 +1,8 @@
-//! A store of snapshots: lists of words, each under an id that the store hands out.
+//! A store of snapshots: lists of words, each under an id that the store makes.
 //!
-//! The layer above saves the words of a component, writes over them at each new point, puts them
-//! back, and lets them go. It sees a store as what each live id holds, and an id as a number that
-//! only a store can make; `specs/Store.antt` has the definitions. Saving alone takes memory.
+//! The layer above saves the words of a component, overwrites them at each new point, restores them, and releases them.
+//! It sees a store as the words under each live id, and an id as a number that only a store can make.
+//! `specs/Store.antt` has the definitions. Only saving takes memory.
 #![tactic(auto)]
 
 ghost use Rattle.std.specs.Prelude.{◌≡◌, length, None, Some, IfOk, OnErr};
@@ -13,8 +13,8 @@ use slab::Slab;
 use std::alloc::{AllocError, Global};
 use std::marker::Model;
 
-/// The id of a snapshot. A store hands it out when it saves the snapshot, and it is live until that
-/// store releases it; later the store may hand it out again.
+/// The id of a snapshot. A store returns it when it saves the snapshot. It is live until that store releases it.
+/// The store may then use it again for another snapshot.
 #[derive(Clone, Copy, Debug, PartialEq, Eq)]
 pub struct SnapId {
     key: usize,
@@ -30,7 +30,7 @@ impl Model for SnapId {
     ghost inverse = { λ n. record { key = n } };
 }
 
-/// Snapshots of words under ids.
+/// A store: snapshots of words under ids.
 #[derive(Drop)]
 pub struct Snaps {
     slots: Slab<Vec<i64>>,
@@ -51,7 +51,7 @@ impl Model for Snaps {
     ghost view = { λ s. stored_from 0 (map (option_map (λ v. v.items)) s.slots.slots) };
 }
 
-/// Writes words over as many others. Where there is one, as in many components, it is written without a call.
+/// Overwrites words by as many others. A single word, as many components have, is written without a call.
 pub fn copy_words(into: &mut [i64], words: &[i64])
     requires { length into.old ≡ length words.now }
     ensures { into.new ≡ words.now }
@@ -64,7 +64,7 @@ pub fn copy_words(into: &mut [i64], words: &[i64])
 }
 
 impl Snaps {
-    /// A store with no snapshot. It takes no memory yet; `alloc` is where its room comes from later.
+    /// Returns a store without a snapshot. It takes no memory yet: `alloc` is where its memory comes from later.
     pub fn new(alloc: Global) -> Snaps
         ensures empty { result ≡ map.empty }
     {
@@ -73,8 +73,8 @@ impl Snaps {
         }
     }
 
-    /// Keeps a copy of the words under an id that was not live. Where memory is refused the store
-    /// stays as it is.
+    /// Saves a copy of the words and returns its id, which was not live before.
+    /// Where memory is refused the store stays unchanged.
     pub fn save(&mut self, alloc: Global, words: &[i64]) -> Result<SnapId, AllocError>
         ensures new_id { IfOk result (λ id. words_of self.old id ≡ None) }
         ensures saved { IfOk result (λ id. words_of self.new id ≡ Some words.now) }
@@ -86,7 +86,7 @@ impl Snaps {
         Ok(SnapId { key })
     }
 
-    /// Writes over the words of a live id, with as many words.
+    /// Overwrites the words of a live id. The new ones must be as many.
     pub fn overwrite(&mut self, id: SnapId, words: &[i64])
         requires live { IsLive self.old id }
         requires same_length { HasLength self.old id (length words.now) }
@@ -97,7 +97,7 @@ impl Snaps {
         copy_words(held, words);
     }
 
-    /// Puts the words of a live id into a list of their length.
+    /// Copies the words of a live id into `into`, which must have their length.
     pub fn restore(&self, id: SnapId, into: &mut [i64])
         requires live { IsLive self.now id }
         requires same_length { HasLength self.now id (length into.old) }
@@ -106,7 +106,7 @@ impl Snaps {
         into.copy_from_slice(&self.slots[id.key]);
     }
 
-    /// The words of a live id.
+    /// Returns the words of a live id.
     pub fn words(&self, id: SnapId) -> &[i64]
         requires live { IsLive self.now id }
         ensures words { words_of self.now id ≡ Some result.now }
@@ -114,7 +114,7 @@ impl Snaps {
         &self.slots[id.key]
     }
 
-    /// Lets go of a live id and of its words.
+    /// Releases a live id and its words.
     pub fn release(&mut self, id: SnapId)
         requires live { IsLive self.old id }
         ensures released { words_of self.new id ≡ None }

@@ -1,4 +1,4 @@
--- A system in range that is well-formed and has no cycle can be replayed.
+-- A system that is in range and well-formed and has no cycle has a replay.
 use Rattle.std.proofs.Common.{◌≡◌, ℕ, zero, suc, List, [], ◌∷◌, length, Option, Some, None, refl, subst}
 use Rattle.std.proofs.lemmas.List.{length-map}
 use Rattle.std.proofs.lemmas.Option.{same_Some}
@@ -29,7 +29,7 @@ use Rattle.unit_tree.specs.declared.unit.Param.{Param}
 use Rattle.unit_tree.specs.declared.unit.Unit.{Unit}
 
 module _ (system : System) (ranged : IsRanged system) (kept : IsWellFormed system) where
-  -- What is run of the system.
+  -- The plain form of the system.
   abbrev plain : System
   plain = plain_form system
 

@@ -1,4 +1,4 @@
--- Events of a world: what each needs of what the world keeps.
+-- Events of a world: what each needs of the world's invariant.
 use Rattle.std.proofs.Common.{◌≡◌, ◌≢◌, ◌∙◌, ℕ, zero, suc, ◌+◌, ◌==◌, ◌<◌, ◌≤◌, Bool, true, false, List}
 use Rattle.std.proofs.Common.{[], ◌∷◌, length, Some, refl, sym, ap, subst, arith, inl, inr}
 use Rattle.std.proofs.lemmas.Bool.{eqb-true, eqb-false}
@@ -18,7 +18,7 @@ use Rattle.trace_rows.proofs.Filling.{few_cells, full_cell}
 pub never : false ≡ true → ⊥
 never is = cc
 
--- An instance of which a step is wanted is there.
+-- An instance with a required step exists.
 pub wanted_within : (r : RunState) (instance : ℕ) → Stands r → IsWanted r instance → instance < length r.plan.run.members
 wanted_within r instance stands wanted =
     let within = slice_get_within r.cells instance Empty wanted in
@@ -37,7 +37,7 @@ refused_so world one is = inr (record { refused = is; is = refl; replied = refl 
 
 -- ---- Whether all cells are filled
 
--- Nothing is wanted of the first instances.
+-- No step is required of the first instances.
 abbrev pub NoneWantedBelow : RunState → ℕ → Type 0
 NoneWantedBelow r count = (instance : ℕ) → instance < count → IsWanted r instance → ⊥
 

@@ -1,4 +1,4 @@
--- Where the answers of a lane come from: those that a publish keeps were there, and those that a post appends stand behind them.
+-- Where the answers of a lane come from: those that a publish keeps were there, and those that a post appends come after them.
 use Rattle.std.proofs.Common.{◌≡◌, ◌∙◌, ℕ, zero, suc, ℤ, arith, Bool, true, false, if◌then◌else◌, List, []}
 use Rattle.std.proofs.Common.{◌∷◌, ◌++◌, length, drop, inl, inr, refl, sym, ap, subst}
 use Rattle.std.proofs.Common.{◌⊎◌, append_assoc, append-nil}
@@ -86,7 +86,7 @@ posted_goes_on code state line answers (one ∷ ones) =
       is = rest.is ∙ ap (λ front. front ++ rest.more) first.is ∙ append_assoc answers first.more rest.more;
     }
 
--- An answer of those now was there, or stands behind those that were.
+-- An answer of the new ones was there, or comes after those that were.
 pub old_or_new : (old new : List Answered) (one : Answered) → GoesOn old new → Contains new one → Contains old one ⊎ Contains (drop (length old) new) one
 old_or_new old new one on has =
     let behind : drop (length old) new ≡ on.more = ap (drop (length old)) on.is ∙ drop_at old on.more (length old) refl in

@@ -1,4 +1,4 @@
--- What a replay counts.
+-- The counts of a replay.
 use Rattle.std.proofs.Common.{◌≡◌, ◌∙◌, ℕ, zero, suc, ◌+◌, cond, Bool, List, [], ◌∷◌, ◌++◌, length, Some, inl, inr, refl, sym, ap, subst}
 use Rattle.std.proofs.Common.{add-zero, arith, length-append, set}
 use Rattle.std.proofs.lemmas.List.Sums.{sum_by-set}
@@ -27,14 +27,14 @@ use Rattle.unit_tree.specs.declared.ending.Ending.{Ending}
 abbrev one_if : (Reply → Bool) → Reply → ℕ
 one_if test told = cond (test told) 1 0
 
--- A hand was put in the place of another one.
+-- A hand replaced another one.
 hand_put : (hands : List (List TicketState)) (worker : ℕ) (old new : List TicketState) → slice_get hands worker ≡ Some old
     → tickets_in (set hands worker new) + length old ≡ tickets_in hands + length new
 hand_put hands worker old new at =
     ap (λ (hand : List TicketState). tickets_in (set hands worker new) + length hand) (sym (get_or_from_slice_get hands worker old old at))
     ∙ sum_by-set (λ (hand : List TicketState). length hand) hands worker new old (slice_get_within hands worker old at)
 
--- A ticket comes into a hand where one is taken, and leaves it where one is posted or given back.
+-- A hand gets a ticket where one is taken, and loses one where one is posted or given back.
 pub record AreKept (from : WorldState) (told : Reply) (to : WorldState) : Type 0 where
   pub is : tickets_in to.hands + one_if is_posted told + one_if is_back told ≡ tickets_in from.hands + one_if is_taken told
 
@@ -45,7 +45,7 @@ kept_same from told to same posted back taken =
     let hands = ap tickets_in same in
     record { is = omega (arith, hands, posted, back, taken) }
 
--- The first ticket of a hand that leaves it.
+-- A hand without its first ticket.
 one_left : (hands : List (List TicketState)) (worker : ℕ) (ticket : TicketState) (others : List TicketState) → slice_get hands worker ≡ Some (ticket ∷ others)
     → tickets_in (set hands worker others) + 1 ≡ tickets_in hands
 one_left hands worker ticket others first = let put = hand_put hands worker (ticket ∷ others) others first in omega (arith, put)
@@ -93,7 +93,7 @@ happens_keep from what told to (inr refuses) =
     subst (λ said. AreKept from said to) (sym refuses.replied)
     (kept_same from reply.Refused to (ap (λ (w : WorldState). w.hands) refuses.is) refl refl refl)
 
--- Along all that was done.
+-- Along a whole history.
 tickets_along : (past : List Done) (from to : WorldState) (counts : Replies) → Leads from past to
     → tickets_in to.hands + (with_replies counts past).posted + (with_replies counts past).back + counts.tickets
     ≡ tickets_in from.hands + (with_replies counts past).tickets + counts.posted + counts.back
@@ -106,7 +106,7 @@ tickets_along (one ∷ others) from to counts (begins, happens, leads) =
     let rest = tickets_along others one.after to (with_reply counts one.reply) leads in
     omega (arith, first, same, rest)
 
--- ---- The counts of all that was done
+-- ---- The counts of a history
 
 pub none_held : (workers : ℕ) → tickets_in (replicate workers []) ≡ 0
 none_held zero = refl
@@ -121,14 +121,14 @@ all_settled course from past leads none counted =
     let back = ap (λ (counts : Replies). counts.back) counted in
     omega (arith, along, none, tickets, posted, back)
 
--- How the counts go along what was done.
+-- How the counts follow a history.
 events_counted : (past : List Done) (counts : Replies) → (with_replies counts past).events ≡ counts.events + length past
 events_counted [] counts = sym (add-zero counts.events)
 events_counted (one ∷ others) counts =
     let rest = events_counted others (with_reply counts one.reply) in
     omega (arith, rest)
 
--- Each count, as a field of the counts, is that of a test on replies.
+-- Each count, as a field of the counts, is the number of replies that pass a test.
 module _ (field : Replies → ℕ) (number : Reply → ℕ) (step : (counts : Replies) (told : Reply) → field (with_reply counts told) ≡ field counts + number told)
   where
     counted_along : (past : List Done) (counts : Replies) → field (with_replies counts past) ≡ fold (λ sum told. sum + number told) (field counts)
@@ -160,7 +160,7 @@ are_counts course past outcome phase counted = record {
     none_and : (n : ℕ) → 0 + n ≡ n
     none_and n = omega arith
 
--- ---- Rounds as a list of what was done
+-- ---- Rounds as a history
 
 round_leads : (seed workers number : ℕ) (from : WorldState) (past : List Done) (to : WorldState) → IsRound seed workers number from past to → Leads from past to
 round_leads seed workers number from past to round =

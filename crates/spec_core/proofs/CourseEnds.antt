@@ -1,4 +1,4 @@
--- A replay, from its opening to what it came to.
+-- A replay, from its opening to its end.
 use Rattle.std.proofs.Common.{◌≡◌, ◌∙◌, ℕ, suc, ◌+◌, ◌*◌, ◌≤◌, Bool, true, false, List, [], Option, Result, Ok, Err, refl, sym, ap, subst, arith}
 use Rattle.std.proofs.Common.{append-nil}
 use Rattle.std.specs.List.{flat_map}
@@ -33,7 +33,7 @@ use Rattle.unit_tree.specs.declared.ending.Ending.{Ending}
 
 -- ---- From row to row
 
--- What the loop over rows keeps: the rows that were put, the rounds that were made, and that few events were counted so far.
+-- The invariant of the loop over rows: the rows that were written, the rounds that were made, and that few events were counted so far.
 pub record KeptCourse (plan : Planned) (workers : ℕ) (first course : Course) (held0 held : Option (List ℕ)) (faults0 faults : ℕ) (tally : Tally) : Type 0 where
   pub kept : Kept plan first.world.run.opened course.world.run held0 held faults0 faults tally
   pub front : PutsRestFront plan first.world.run.opened held0 held
@@ -43,11 +43,11 @@ pub record KeptCourse (plan : Planned) (workers : ℕ) (first course : Course) (
   pub most : course.replies.events ≤ 450 * course.world.run.stand.at.number
 
 module _ (plan : Planned) (first : Course) (held0 held : Option (List ℕ)) (faults0 faults : ℕ) (tally : Tally) where
-  -- The course has come to a row, before it is put.
+  -- The replay has come to a row, before it is written.
   abbrev pub ComeTo : Course → Type 0
   ComeTo course = Come plan first.world.run.opened course.world.run held0 held faults0 faults tally
 
-  -- A front of it may be put.
+  -- A prefix of it may have been written.
   pub front_put : {T : Type 0} (course : Course) (run : RunState) (held' : Option (List ℕ)) (result : Result T CrewFault) → ComeTo course
       → run ≡ course.world.run → AppendsPrefix held held' (lines_of plan.system (rows_here plan run.stand))
       → OnErr result (PutsRestFront plan first.world.run.opened held0 held')
@@ -99,7 +99,7 @@ module _ (plan : Planned) (first : Course) (held0 held : Option (List ℕ)) (fau
         done_by plan first.world.run.opened course.world.run new.world.run held0 held faults0 faults tally given kept.kept
         (ended_by course.world.run new.world.run came is advances.went) stands
 
-  -- There is room for the events of another row.
+  -- The events of another row can be counted.
   pub has_room : (workers : ℕ) (course : Course) → Given plan first.world.run.opened → KeptCourse plan workers first course held0 held faults0 faults tally
       → course.replies.events + 450 ≤ 1073741824
   has_room workers course given kept =
@@ -107,7 +107,7 @@ module _ (plan : Planned) (first : Course) (held0 held : Option (List ℕ)) (fau
       let within = number_within plan first.world.run.opened course.world.run given kept.kept.at.planned kept.world.stands in
       omega (arith, most, within)
 
--- Where there is no memory the faults of the sink stay.
+-- Where memory is refused the faults of the sink stay.
 pub tells_unmade : {T : Type 0} (faults0 faults : ℕ) (result : Result T CrewFault) → faults ≡ faults0 → result ≡ Err NoMemory → TellsFault faults0 faults result
 tells_unmade {T} faults0 faults result same is = record {
   later = omega (arith, same);
@@ -134,7 +134,7 @@ puts_rows plan from run held0 held tally ending given done phase = record {
 
 -- ---- The whole replay
 
--- It has ended by rounds so.
+-- It has ended after these rounds.
 pub record IsPlayed (plan : Planned) (seed workers : ℕ) (first last : Course) (outcome : Ending) : Type 0 where
   pub begun : IsBegun plan seed workers first
   pub rounds : GoesRounds workers first last
@@ -175,7 +175,7 @@ module _ (plan : Planned) (seed workers : ℕ) (first last : Course) (outcome : 
     counted = are_counts last past outcome played.phase counted;
   }
 
--- ---- The trace behind its header
+-- ---- The trace after its header
 
 module _ (plan : Planned) (first : RunState) (opened : IsOpened plan (first_position plan.run) first) (stands : Stands first)
     (held0 held held' : Option (List ℕ))
@@ -198,7 +198,7 @@ module _ (plan : Planned) (first : RunState) (opened : IsOpened plan (first_posi
   trace_front (Ok outcome) front = tt
   trace_front (Err fault) front = traced_err plan first.opened held0 held held' (Err fault) composed at_first put front
 
--- ---- By what putting it came to
+-- ---- By the result of writing it
 
 module _ (plan : Planned) (seed workers : ℕ) (first last : Course) (begun : IsBegun plan seed workers first) where
   played : (outcome : Ending) → GoesRounds workers first last → last.world.run.phase ≡ Ended outcome → IsPlayed plan seed workers first last outcome

@@ -1,4 +1,4 @@
--- Rounds, and where a run gets by them.
+-- Rounds, and where they lead a run.
 use Rattle.std.proofs.Common.{◌≡◌, ◌∙◌, ℕ, ◌+◌, ◌*◌, ◌≤◌, Bool, true, false, List, [], ◌∷◌, ◌++◌, length, refl, sym, ap, subst, arith, append-nil}
 use Rattle.std.proofs.Common.{add-one, add-zero, append_assoc, length-append}
 use Rattle.std.proofs.lemmas.Grind.{flat_map-append}
@@ -27,7 +27,7 @@ use Rattle.unit_tree.specs.declared.ending.Ending.{Ending}
 
 -- ---- Before a run settles
 
--- At most 64 instances are there.
+-- There are at most 64 instances.
 pub few_lanes : (world : WorldState) → IsWorld world → length world.lanes ≤ 64
 few_lanes world is = subst (λ n. n ≤ 64) (sym is.each_instance) is.stands.bounded.members
 
@@ -214,7 +214,7 @@ module _ (workers : ℕ) (old : Course) (few_workers : workers ≤ 16) (is : IsW
         settled_redo old.world.run is.stands mid.world.run made.filled.run new.world.run to redone (round_there workers mid new to made mid_is)
         (round_settled workers mid new to made)
 
-    -- So do two where the step is made anew.
+    -- So do two rounds, where there is a redo.
     by_two : (to : Settle) (came : Bool) (new : Course) → MakesRound workers mid to new → WentOn old.world.run new.world.run came
         → Advances workers old new came
     by_two to came new made went = record {

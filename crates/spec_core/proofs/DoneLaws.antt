@@ -1,4 +1,4 @@
--- What was done and counted, one event after the other.
+-- Events that were applied and counted, one after the other.
 use Rattle.std.proofs.Common.{◌≡◌, ◌∙◌, ℕ, zero, suc, ◌+◌, List, [], ◌∷◌, ◌++◌, length, map, refl, sym, ap, subst, arith, append-nil}
 use Rattle.std.proofs.Common.{add-one, add-zero, append_assoc, length-append}
 use Rattle.std.proofs.lemmas.List.FromFn.{length-map-range_with_len, map-range_with_len_more}
@@ -14,7 +14,7 @@ use Rattle.spec_core.specs.declared.event.Event.TheVariants as event
 use Rattle.spec_core.specs.declared.event.Reply.{Reply}
 use Rattle.spec_core.specs.declared.replies.Replies.{Replies}
 
--- ---- Lists of what was done
+-- ---- Histories
 
 pub leads_append : (past more : List Done) (from middle to : WorldState) → Leads from past middle → Leads middle more to → Leads from (past ++ more) to
 leads_append [] more from middle to is leads = subst (λ world. Leads world more to) (sym is) leads

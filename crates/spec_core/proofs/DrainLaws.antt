@@ -23,7 +23,7 @@ use Rattle.spec_core.specs.declared.event.Reply.{Reply}
 use Rattle.spec_core.specs.declared.event.Reply.TheVariants as reply
 use Rattle.spec_core.proofs.TicketSums.{few_tickets, out_in_hands}
 
--- ---- One event more
+-- ---- One more event
 
 leads_on : (from middle to : WorldState) (past others : List Done) → Leads from past middle → Leads middle others to → Leads from (past ++ others) to
 leads_on from middle to [] others is leads = subst (λ w. Leads w others to) (sym is) leads
@@ -36,7 +36,7 @@ lanes_same (lane ∷ lanes) = (refl, lanes_same lanes)
 one_then : (a b c : LaneState) → IsSameButJournal a b → IsSameButJournal b c → IsSameButJournal a c
 one_then a b c first second = second ∙ ap (λ (l : LaneState). record l { journal = c.journal }) first
 
--- A lane of which a ticket was given back.
+-- A lane to which a ticket was given back.
 lanes_set : (old now : List LaneState) (k : ℕ) (lane : LaneState) (number : ℕ) → AllZip IsSameButJournal old now → slice_get now k ≡ Some lane
     → AllZip IsSameButJournal old (set now k (backed lane number))
 lanes_set [] [] k lane number all at = absurd (cc)
@@ -60,7 +60,7 @@ lanes_then (x ∷ a) (y ∷ b) (z ∷ c) one other = (one_then x y z one.0 other
 pub gives_none : (world : WorldState) → GivesAllBack [] world world world.hands
 gives_none world = record { past = []; leads = refl; backs = refl; each = tt; hands = refl; run = refl; lanes = lanes_same world.lanes }
 
--- What was given back, and more behind it.
+-- What was given back, and then more.
 pub gives_on : (events more : List Event) (old now new : WorldState) (hands last : List (List TicketState)) → GivesAllBack events old now hands
     → GivesAllBack more now new last → GivesAllBack (events ++ more) old new last
 gives_on events more old now new hands last first second = record {
@@ -183,7 +183,7 @@ hands_next world now new worker count more so_far drained =
           (subst (GivesAllBack (backs_from 0 (take worker world.hands) ++ replicate more (event.Back worker)) world new) hands both);
     }
 
--- The count stays within what a world may have.
+-- The count stays within the limit of a world.
 pub room_left : (world now : WorldState) (worker count more : ℕ) (hand : List TicketState) → IsWorld world → AreHandsSoFar world worker now count
     → slice_get now.hands worker ≡ Some hand → more ≡ length hand → count + more ≤ 2 ^ 32 * 64
 room_left world now worker count more hand is so_far there counted =

@@ -1,4 +1,4 @@
--- Tickets that end, and those that go into hands: what is read of hands and lanes, and the world afterwards.
+-- Tickets that end, and tickets that go to hands: what is read of hands and lanes, and the world afterwards.
 use Rattle.std.proofs.Common.{◌≡◌, ◌≢◌, ◌∙◌, ℕ, zero, suc, ◌==◌, ◌&&◌, ◌<◌, Bool, true, false, List, []}
 use Rattle.std.proofs.Common.{◌∷◌, set, get_or, remove, length, Some, refl, sym, ap, subst}
 use Rattle.std.proofs.Common.{arith}
@@ -51,7 +51,7 @@ units_kept (lane ∷ lanes) (unit ∷ units) zero old new all at same =
     (all.0 ∙ ap (λ (l : LaneState). l.image) (same_Some lane old at) ∙ sym same, all.1)
 units_kept (lane ∷ lanes) (unit ∷ units) (suc k) old new all at same = (all.0, units_kept lanes units k old new all.1 at same)
 
--- A unit that was run has the image of its lane.
+-- A unit after its run has the image of its lane.
 pub units_run : (lanes : List LaneState) (units : List Running) (k : ℕ) (unit new : Running) → AllZip IsUnitOf lanes units
     → unit ≡ get_or units k unit → new.image ≡ unit.image → AllZip IsUnitOf lanes (set units k new)
 units_run [] [] k unit new all is same = tt
@@ -126,7 +126,7 @@ pub record IsTakenOut (world : WorldState) (hands : List Held) (worker : ℕ) (t
   pub left : hand.items ≡ others
   pub is_first : IsFirst world worker ticket others
 
--- The world where a ticket has ended: its lane and its hand changed.
+-- The world after a ticket has ended: its lane and its hand changed.
 pub ended_world : (world : WorldState) (hands : List Held) (worker place : ℕ) (new : LaneState) (hand : Held) (ticket : TicketState)
     (others : List TicketState) → world.hands ≡ tickets_of hands → place ≡ ticket.instance → hand.items ≡ others
     → record world { lanes = set world.lanes place new; hands = tickets_of (set hands worker hand) }
@@ -150,7 +150,7 @@ taken_out world hands worker hand ticket left is held has read first rest =
       is_first = subst (λ one. IsFirst world worker one has.others) (sym same) (first_ticket world worker has.ticket has.others is has.first);
     }
 
--- What is read where it was put.
+-- What is read where it was stored.
 pub put_read : (lanes : List LaneState) (k : ℕ) (new seen : LaneState) → k < length lanes → seen ≡ get_or (set lanes k new) k seen → seen ≡ new
 put_read lanes k new seen within is = is ∙ get_or-set_same lanes k new seen within
 

@@ -1,4 +1,5 @@
--- What the events of a round do to the run: those of workers and lanes leave it, and each step that is looked for fills a cell.
+-- The effects of a round's events on the run: those of workers and lanes leave it as it is, and each step that is looked for fills a
+-- cell.
 use Rattle.std.proofs.Common.{◌≡◌, ◌∙◌, ℕ, zero, suc, ◌+◌, ◌≤◌, ◌==◌, cond, Bool, true, false, List, [], ◌∷◌, length, map, Some}
 use Rattle.std.proofs.Common.{Result, add-one, add-zero, inl, inr, refl, sym, ap, subst, arith, length-set, set}
 use Rattle.std.proofs.lemmas.List.Sums.{sum_by-cons}
@@ -151,7 +152,7 @@ fewer_empty (cell ∷ cells) (suc instance) step at =
     let other = sum_by-cons empty_in cell (set cells instance (Filled step)) in
     omega (arith, rest, one, other)
 
--- No step is wanted of an instance whose cell was filled, nor of another of which none was.
+-- No step is required of an instance whose cell was filled, nor of another that required none.
 stays_set : (cells : List Cell) (filled : ℕ) (step : Result Moved Fault) (instance : ℕ) → slice_get (set cells filled (Filled step)) instance ≡ Some Empty
     → slice_get cells instance ≡ Some Empty
 stays_set cells filled step instance at =
@@ -236,7 +237,7 @@ served_fills from instance (find ∷ compute ∷ []) to (wanted, is_find, said, 
     (subst (λ what. Happens compute.before what compute.reply compute.after) is_compute makes)))
 served_fills from instance (find ∷ compute ∷ other ∷ others) to served leads = absurd served
 
--- Of the first instances nothing is wanted any more.
+-- Of the first instances no step is required any more.
 served_below : (count instance : ℕ) (from : WorldState) (past : List Done) (to : WorldState) → AreServed from instance count past to
     → NoneWantedBelow from.run instance → Fills from.run to.run × NoneWantedBelow to.run (instance + count)
 served_below zero instance from past to (none, same) below =
@@ -260,7 +261,7 @@ none_empty (cell ∷ cells) full =
     let rest = none_empty cells full.1 in
     omega (arith, here, one, rest)
 
--- Where all instances were served all steps are there.
+-- Where all instances were served, all steps are made.
 pub served_there : (instances : ℕ) (from : WorldState) (past : List Done) (to : WorldState) → length from.run.cells ≤ instances
     → AreServed from 0 instances past to → AreStepsThere from.run to.run
 served_there instances from past to few serves =

@@ -1,4 +1,4 @@
--- Whatever happens to a world that can reply, it can reply afterwards; and what stays of its run.
+-- After any event, a world that can reply can reply again; and what stays of its run.
 use Rattle.std.proofs.Common.{◌≡◌, ◌∙◌, ℕ, ◌<◌, ◌==◌, Bool, true, false, List, [], ◌∷◌, ◌++◌, set, map, length, Some, Result, refl, sym, ap}
 use Rattle.std.proofs.Common.{subst, inl, inr, length-set}
 use Rattle.std.proofs.lemmas.List.{length-map}
@@ -98,7 +98,7 @@ run_kept world now can on same = record {
   tickets = can.tickets;
 }
 
--- A cell that was wanted is filled.
+-- A cell whose step was required is filled.
 filled_fits : (run : Composition) (t instance : ℕ) (phase : Phase) (cells : List Cell) (step : Result Moved Fault) → slice_get cells instance ≡ Some Empty
     → FitPhase run t phase cells → FitPhase run t phase (set cells instance (Filled step))
 filled_fits run t instance (Trial h) cells step wanted fit = filled_fit cells instance step wanted ∙ fit
@@ -169,9 +169,9 @@ pub keeps_reply : (world new : WorldState) (what : Event) (told : Reply) → Can
 keeps_reply world new what told can (inl does) = does_keep world new what told can does
 keeps_reply world new what told can (inr refused) = subst CanReply (sym refused.is) can
 
--- ---- Events beside the run
+-- ---- Events that leave the run as it is
 
--- The event is none of the run's own: it leaves the run as it is.
+-- The event is not one of the run: it leaves the run as it is.
 abbrev pub IsBeside : Event → Type 0
 IsBeside (event.Publish instance) = ⊤
 IsBeside (event.Take worker instance) = ⊤
@@ -196,7 +196,7 @@ pub run_stays : (world new : WorldState) (what : Event) (told : Reply) → IsBes
 run_stays world new what told beside (inl does) = does_beside world new what told beside does
 run_stays world new what told beside (inr refused) = ap (λ (w : WorldState). w.run) refused.is
 
--- Lanes are published, and workers do what is drawn, beside the run.
+-- Lanes are published, and workers do what is drawn. The run stays as it is.
 pub publishes_beside : (instances : List ℕ) → AllByRecursion IsBeside (map event.Publish instances)
 publishes_beside instances = each_map IsBeside event.Publish instances (λ instance. tt)
 

@@ -1,4 +1,4 @@
--- Tickets in hands: what is counted of them after a change of one hand, and which are outstanding.
+-- Tickets in hands: their sums after a change of one hand, and which are outstanding.
 use Rattle.std.proofs.Common.{◌≡◌, ◌∙◌, ℕ, ◌+◌, ◌≤◌, ◌==◌, Bool, true, false, ◌||◌, if◌then◌else◌, List, [], ◌∷◌, ◌++◌, set, Some, refl, sym, ap, subst, arith}
 use Rattle.std.proofs.lemmas.Bool.{eqb-true, eq-eqb}
 use Rattle.std.proofs.lemmas.List.Sums.{get_or-le-sum_by, sum_by-cons, sum_by_push, sum_by-set}
@@ -11,7 +11,7 @@ use Rattle.spec_core.specs.Worlds.{AreInHands, counted}
 
 -- ---- Sums
 
--- What is counted of all hands after a change of one.
+-- The sum over all hands after a change of one.
 abbrev in_hands : (TicketState → ℕ) → List (List TicketState) → ℕ
 in_hands f hands = sum_by (λ hand. sum_by f hand) hands
 
@@ -68,7 +68,7 @@ other_counts instance count ticket differ = at (ticket.instance == instance) ref
     at true same = absurd (differ (eqb-true ticket.instance instance same))
     at false same = refl
 
--- What one of a list counts is at most what all of it do.
+-- The value of one element is at most the sum of all.
 weighs_in : {A : Type 0} (f : A → ℕ) (xs : List A) (k : ℕ) (x : A) → slice_get xs k ≡ Some x → f x ≤ sum_by f xs
 weighs_in f xs k x at = subst (λ y. f y ≤ sum_by f xs) (get_or_from_slice_get xs k x x at) (get_or-le-sum_by f xs k x (slice_get_within xs k x at))
 
@@ -89,7 +89,7 @@ module _ (instance : ℕ) (outstanding : List ℕ) (hands : List (List TicketSta
       → ticket.instance ≡ instance → is_listed ticket.number outstanding ≡ true
   first_is_out worker ticket others at same = ticket_is_out worker 0 (ticket ∷ others) ticket at refl same
 
-  -- A ticket that ends is neither outstanding nor in its hand any more.
+  -- A ticket that has ended is no longer outstanding and no longer in its hand.
   pub end_keeps : (worker : ℕ) (ticket : TicketState) (others : List TicketState) → slice_get hands worker ≡ Some (ticket ∷ others)
       → ticket.instance ≡ instance → AreInHands instance (without ticket.number outstanding) (set hands worker others)
   end_keeps worker ticket others at same count =
@@ -101,7 +101,7 @@ module _ (instance : ℕ) (outstanding : List ℕ) (hands : List (List TicketSta
       let first = sum_by-cons f ticket others in
       omega (arith, gone, all, left, own, first)
 
-  -- That of another instance changes nothing of this one.
+  -- A ticket of another instance changes nothing for this one.
   pub other_end_keeps : (worker : ℕ) (ticket : TicketState) (others : List TicketState) → slice_get hands worker ≡ Some (ticket ∷ others)
       → (ticket.instance ≡ instance → ⊥) → AreInHands instance outstanding (set hands worker others)
   other_end_keeps worker ticket others at differ count =
@@ -134,7 +134,7 @@ module _ (instance : ℕ) (outstanding : List ℕ) (hands : List (List TicketSta
       let none = other_counts instance count ticket differ in
       omega (arith, all, put, left, none)
 
-  -- A ticket that goes from hand to hand is in a hand as before.
+  -- A ticket that goes from hand to hand is still in a hand.
   pub steal_keeps : (worker from : ℕ) (hand others : List TicketState) (ticket : TicketState) → slice_get hands from ≡ Some (ticket ∷ others)
       → slice_get (set hands from others) worker ≡ Some hand
       → AreInHands instance outstanding (set (set hands from others) worker (hand ++ ticket ∷ []))

@@ -1,4 +1,4 @@
--- An event has one reply, and leaves one world.
+-- An event has only one reply, and leads to only one world.
 use Rattle.std.proofs.Common.{◌≡◌, ◌∙◌, ℕ, ◌+◌, ℤ, List, ◌∷◌, ◌++◌, [], length, Option, Some, None, refl, sym, ap, subst, arith, inl, inr, ◌⊎◌}
 use Rattle.std.proofs.lemmas.Option.{none-some, same_Some}
 use Rattle.std.specs.Prelude.{slice_get}
@@ -44,7 +44,7 @@ pub record IsOrderedAt (run : Composition) (at : Position) : Type 0 where
   pub members : AreMembers run
   pub words : HasWords run at
 
--- It holds where a run stands.
+-- It holds at the run's stand.
 abbrev pub IsOrdered : RunState → Type 0
 IsOrdered r = IsOrderedAt r.plan.run r.stand.at
 
@@ -78,7 +78,7 @@ seen_once r instance one other is is_other =
       high = high i;
     }
 
--- The lane with its new front.
+-- The lane after it was published again.
 abbrev front_of : WorldState → LaneState → List ℤ → Seen → LaneState
 front_of world lane state seen = published lane seen.row state (guessed_line world.policy seen world.window)
 
@@ -107,7 +107,7 @@ take_once world new next worker instance told other one two =
     λ i. with_hand (with_lane world instance (taken (lane i))) worker (hand i ++ ticket i ∷ []) in
     (one.replied ∙ sym two.replied, one.is ∙ moved ∙ sym two.is)
 
--- A hand has one first ticket, and others behind it.
+-- A hand has only one first ticket, and only these others after it.
 first_once : (world : WorldState) (worker : ℕ) (ticket other : TicketState) (behind others : List TicketState) → HasFirst world worker ticket behind
     → HasFirst world worker other others → (ticket ≡ other) × (behind ≡ others)
 first_once world worker ticket other behind others is is_other =
@@ -160,7 +160,7 @@ back_once world new next worker told other one two =
 
 -- ---- Find and compute
 
--- The image that a component has.
+-- The image of a component.
 abbrev pub image_for : Component → Compiled
 image_for component =
     record { program = program_of component.unit component.params; start = initial component; start_inputs = start_inputs_of component.unit }
@@ -180,7 +180,7 @@ key_once r instance one other is is_other =
     let step = is.step ∙ ap (λ (m : Member). local_step m.factor r.stand.at.point.t (step_length r.phase)) member ∙ sym is_other.step in
     λ i. record { code = code i; state = state i; inputs = inputs i; time = time i; step = step i }
 
--- Whatever is looked for, the same is found.
+-- The same is found for any step that is looked for.
 found_once : (world : WorldState) (instance : ℕ) (lane other : LaneState) (key its : StepKey) → Looks world instance lane key → Looks world instance other its
     → found lane key ≡ found other its
 found_once world instance lane other key its looks looks_other =
@@ -231,7 +231,7 @@ ends_once old new next one two =
     same_ending : (e f : Ending) → ends e ≡ ends f → e ≡ f
     same_ending e f is = cc
 
--- Where the run comes to, whether its ports are known there is one thing.
+-- Whether the ports are known at the run's next stand is determined.
 known_or_not : (old new next : RunState) → IsOrdered old → Moves old new → ArePortsKnown new.plan.run new.stand → Moves old next
     → (ArePortsKnown next.plan.run next.stand → ⊥) → ⊥
 known_or_not old new next is one known two unknown =
@@ -282,7 +282,7 @@ looked world new instance told (inr misses) = misses.looks.wanted
 no_hand : (world : WorldState) (worker : ℕ) (hand : List TicketState) → slice_get world.hands worker ≡ Some hand → slice_get world.hands worker ≡ None → ⊥
 no_hand world worker hand is none = none-some hand (sym none ∙ is)
 
--- What an event does isn't done where it is refused.
+-- The effect of an event that is not refused excludes that it is refused.
 not_refused : (world new : WorldState) (what : Event) (told : Reply) → Does world what told new → IsRefused world what → ⊥
 not_refused world new (event.Publish instance) told does (inl ended) = true_is_false (is_ended world.run.phase) ended does.going
 not_refused world new (event.Publish instance) told does (inr full) = true_is_false (is_full does.lane) (full does.lane does.is_lane) does.room

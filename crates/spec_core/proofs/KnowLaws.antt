@@ -1,4 +1,4 @@
--- What is known of a world behind a list of events: each event keeps it.
+-- What is known of a world after a list of events: each event keeps it.
 use Rattle.std.proofs.Common.{◌≡◌, ◌∙◌, ℕ, suc, ◌==◌, Bool, true, false, if◌then◌else◌, List, [], ◌∷◌, ◌++◌, set, length, take, drop, Some, None}
 use Rattle.std.proofs.Common.{Result, inl, inr, refl, sym, ap, subst, ◌⊎◌, append_assoc, append-nil, arith}
 use Rattle.std.proofs.lemmas.Bool.{eqb-true, eq-eqb}
@@ -163,7 +163,7 @@ module _ (plan : Planned) (order : List ℕ) (ordered : IsPlaceOrder plan.run or
 
   -- ---- Events that leave the run
 
-  -- The lanes keep that their answers were posted.
+  -- The lanes' answers were still posted.
   kept_beside : (past : List Done) (one : Done) → one.after.run ≡ one.before.run → Knows past one.before
       → AnswersPosted (past ++ one ∷ []) one.after.lanes → Knows (past ++ one ∷ []) one.after
   kept_beside past one same had answered = record {
@@ -260,7 +260,7 @@ module _ (plan : Planned) (order : List ℕ) (ordered : IsPlaceOrder plan.run or
 
   -- ---- Events of the run
 
-  -- The lanes stay, and the run stays where it is.
+  -- The lanes stay, and the run stays at its stand.
   fills : (past : List Done) (one : Done) (instance : ℕ) (step : Result Moved Fault) → Knows past one.before
       → one.after.lanes ≡ one.before.lanes → one.after.run.plan ≡ one.before.run.plan → one.after.run.stand ≡ one.before.run.stand
       → one.after.run.phase ≡ one.before.run.phase → one.after.run.cells ≡ set one.before.run.cells instance (Filled step)
@@ -329,7 +329,7 @@ module _ (plan : Planned) (order : List ℕ) (ordered : IsPlaceOrder plan.run or
         by = inr (record { is_compute = is_compute; replied = does.replied });
       })
 
-  -- Behind a settle no cell is filled.
+  -- After a settle no cell is filled.
   emptied : (past : List Done) (one : Done) (run : Composition) (t : ℕ) (phase : Phase) → one.after.run.cells ≡ cells_of run t phase
       → CellsFilled (past ++ one ∷ []) one.after
   emptied past one run t phase cells instance step there =

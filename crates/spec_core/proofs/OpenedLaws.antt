@@ -1,4 +1,4 @@
--- An opened world is one.
+-- An opened world has the invariant of a world.
 use Rattle.std.proofs.Common.{◌≡◌, ◌∙◌, ℕ, zero, suc, ◌*◌, ◌/◌, ◌≤◌, List, [], length, replicate, Some, refl, sym, ap, subst, arith}
 use Rattle.std.proofs.Math.Nat.{min-le_left}
 use Rattle.std.proofs.lemmas.Option.{same_Some}

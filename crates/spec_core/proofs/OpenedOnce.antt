@@ -1,4 +1,4 @@
--- A plan that can be replayed has an opened world, and but one: only the inputs at the row before may differ, where the run has ended.
+-- A plan that can be replayed has one opened world. Only the inputs at the row before may differ, where the run has ended.
 use Rattle.std.proofs.Common.{◌≡◌, ◌∙◌, ℕ, zero, suc, ◌+◌, ◌<◌, ◌≤◌, ℤ, List, [], ◌∷◌, ◌++◌, length, Some, refl, sym, ap, subst, arith}
 use Rattle.std.proofs.lemmas.List.{length-map}
 use Rattle.std.proofs.lemmas.Option.{same_Some, slice_get_within}
@@ -97,7 +97,7 @@ first_lanes run (suc count) images within =
           (opened_lane member.0.component has.image count has.is_image)),
     )
 
--- The world is opened as those of replays are.
+-- The world is opened as for a replay.
 abbrev pub IsOpenedFor : Planned → ℕ → WorldState → Type 0
 IsOpenedFor plan workers world = IsOpenedWorld plan workers 4 Hold world
 
@@ -141,7 +141,7 @@ has_opened plan workers can =
       is_world = opened_is_world plan workers 4 Hold world is_opened stands lanes.1.are_lanes (omega arith);
     }
 
--- ---- There is but one
+-- ---- There is only one
 
 image_once : (component : Component) (one other : Compiled) → IsImageOf component one → IsImageOf component other → one ≡ other
 image_once component one other is is_other =
@@ -171,7 +171,7 @@ lanes_once run lanes others are are_too =
     (are_too.images k other at_too member.0 member.1) in
     are.each k lane at ∙ ap (λ one. opened one k) image ∙ sym (are_too.each k other at_too))
 
--- Two opened worlds of a plan stand at the same place with the same hands, in the same phase.
+-- Two opened worlds of a plan have the same stand, the same hands and the same phase.
 module _ (plan : Planned) (workers : ℕ) (can : CanReplay plan) (one other : WorldState) (is : IsOpenedFor plan workers one)
     (is_other : IsOpenedFor plan workers other) (is_world : IsWorld one) (is_world_too : IsWorld other) where
   -- Where a run of the plan starts.
@@ -205,7 +205,7 @@ module _ (plan : Planned) (workers : ℕ) (can : CanReplay plan) (one other : Wo
       let hands = is_other.hands ∙ sym is.hands in
       λ i. record { run = is_other.run.is i; window = window i; policy = policy i; lanes = lanes i; hands = hands i }
 
-  -- But for the inputs before, the one is the other.
+  -- They are equal except for the inputs before.
   but_for_before : one ≡ opened_as other.run.stand one.run.before
   but_for_before = one_is ∙ ap (λ stand. opened_as stand one.run.before) stand_once
 

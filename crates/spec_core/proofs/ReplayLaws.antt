@@ -1,4 +1,4 @@
--- Every seed is replayed, and replays are counted once.
+-- Every seed has a replay, and its counts are determined.
 use Rattle.std.proofs.Common.{◌≡◌, ◌∙◌, ℕ, suc, true, List, [], ◌∷◌, length, Option, Some, None, refl, sym, ap, subst, arith}
 use Rattle.std.specs.List.{count_by, flat_map, sum_by}
 use Rattle.guess_board.specs.declared.guesses.Policy.TheVariants.{Hold}
@@ -66,7 +66,7 @@ counts_there past to ended =
 same_outcome : (one other : Ending) → Ended one ≡ Ended other → one ≡ other
 same_outcome one other is = cc
 
--- What counts tell is the same, where the same was done and the run came to the same end.
+-- The counts are equal, where the same was done and the run came to the same end.
 pub record IsSameEnd (past other : List Done) (to end : WorldState) : Type 0 where
   pub done : past ≡ other
   pub phase : to.run.phase ≡ end.run.phase

@@ -1,4 +1,4 @@
--- Each event has a reply, in a world that keeps little; and each event keeps this little.
+-- Each event has a reply, in a world with a weak invariant; and each event keeps this invariant.
 use Rattle.std.proofs.Common.{◌≡◌, ◌∙◌, ℕ, ◌+◌, ◌==◌, ◌<◌, ◌≤◌, Bool, true, false, ℤ, List, [], ◌∷◌, ◌++◌, length, Option, Some, None}
 use Rattle.std.proofs.Common.{Result, refl, sym, ap, subst, arith, inl, inr, ◌⊎◌, length-append}
 use Rattle.std.proofs.lemmas.Bool.{eqb-true, eqb-false}
@@ -48,7 +48,7 @@ use Rattle.unit_tree.specs.Successor.{Next, after, ends, ends_at, goes, is_redon
 use Rattle.unit_tree.specs.Trace.{HasWords, Stand}
 use Rattle.unit_tree.specs.declared.ending.Ending.{Ending}
 
--- ---- What a world has to keep, so that each event has a reply
+-- ---- The invariant of a world by which each event has a reply
 
 -- The cells are those of the phase.
 abbrev pub FitPhase : Composition → ℕ → Phase → List Cell → Type 0
@@ -70,12 +70,12 @@ AreBelow count hand = AllByRecursion (λ ticket. ticket.instance < count) hand
 abbrev pub AreOfLanes : List LaneState → List (List TicketState) → Type 0
 AreOfLanes lanes hands = (worker : ℕ) (hand : List TicketState) → slice_get hands worker ≡ Some hand → AreBelow (length lanes) hand
 
--- Each lane is that of its place.
+-- Each lane is that of the instance at its place.
 abbrev pub AreInPlace : List LaneState → Type 0
 AreInPlace lanes = (instance : ℕ) (lane : LaneState) → slice_get lanes instance ≡ Some lane → lane.instance ≡ instance
 
--- A world can reply to each event: its run can go on, it has a lane for each instance in its place, and the tickets in its hands are of
--- these.
+-- A world can reply to each event: its run can go on, it has a lane for each instance at its place, and the tickets in its hands are of
+-- these instances.
 pub record CanReply (world : WorldState) : Type 0 where
   pub can_go_on : CanGoOn world.run
   pub each_instance : length world.lanes ≡ length world.run.plan.run.members
@@ -84,7 +84,7 @@ pub record CanReply (world : WorldState) : Type 0 where
 
 -- ---- A reply
 
--- An event of a world has a reply, and leaves some world.
+-- An event of a world has a reply, and leads to some world.
 abbrev pub HasReply : WorldState → Event → Type 0
 HasReply world what = (told : Reply) × (new : WorldState) × Happens world what told new
 
@@ -103,7 +103,7 @@ inputs_many : (r : RunState) → length (all_inputs r.plan.run r.stand.ports) �
 inputs_many r = length-map r.plan.run.members (inputs_at r.stand.ports)
 
 module _ (world : WorldState) (can : CanReply world) where
-  -- What is run in the world.
+  -- The composition of the world's run.
   abbrev run : Composition
   run = world.run.plan.run
 
@@ -167,7 +167,7 @@ module _ (world : WorldState) (can : CanReply world) where
         replied = refl;
       })
 
-  -- With the lane that is there, whether it is full, and whether the run has ended.
+  -- By the lane, whether it is full, and whether the run has ended.
   publish_by : (instance : ℕ) (ended : Bool) (found : Option LaneState) → is_ended world.run.phase ≡ ended → slice_get world.lanes instance ≡ found
       → HasReply world (event.Publish instance)
   publish_by instance true found is at = refuses world (event.Publish instance) (inl is)
@@ -346,7 +346,7 @@ module _ (world : WorldState) (can : CanReply world) where
           does_so world (with_run world (with_found world.run instance one.answer)) (event.Find instance) reply.Found
           (inl (record { lane = lane; key = key; looks = looks; one = one; is_found = is; is = refl; replied = refl }))
 
-  -- A member of which a step is wanted is not held.
+  -- A member with a required step is not held.
   unheld_by : (t h instance : ℕ) (cells : List Cell) (member : Member) → FitCells run t h cells → slice_get cells instance ≡ Some Empty
       → slice_get run.members instance ≡ Some member → is_held member.factor t h ≡ false
   unheld_by t h instance cells member fit wanted at =
@@ -386,7 +386,7 @@ module _ (world : WorldState) (can : CanReply world) where
 
 -- ---- Settle
 
--- A run settles somewhere.
+-- Settling has a result, and the run a next state.
 abbrev pub GoesSomewhere : RunState → Type 0
 GoesSomewhere r = (to : Settle) × (new : RunState) × Settled r new to
 

@@ -1,4 +1,4 @@
--- What is done in rounds is done in one way: the same events have the same replies, and what is served is told by the world.
+-- Rounds are determined: the same events have the same replies, and the world determines what is served.
 use Rattle.std.proofs.Common.{◌≡◌, ◌∙◌, ℕ, zero, suc, true, List, [], ◌∷◌, ◌++◌, length, refl, sym, ap, subst}
 use Rattle.list_laws.proofs.Lists.{same_first, same_rest}
 use Rattle.list_laws.proofs.Truths.{true_is_false}
@@ -16,7 +16,7 @@ use Rattle.trace_core.specs.Runs.{is_ended}
 
 -- ---- The same events
 
--- An event of one world was done in one way.
+-- An event of a world has only one effect.
 done_once : (from : WorldState) (one other : Done) → CanReply from → one.event ≡ other.event → one.before ≡ from → other.before ≡ from
     → Happens one.before one.event one.reply one.after → Happens other.before other.event other.reply other.after → one ≡ other
 done_once from one other can same is is_other happens happens_other =
@@ -27,7 +27,7 @@ done_once from one other can same is is_other happens happens_other =
     let before = is ∙ sym is_other in
     λ i. record { before = before i; event = same i; reply = both.0 i; after = both.1 i }
 
--- A world that can reply can reply behind an event, and behind all of them.
+-- A world that can reply can reply after an event, and after all of them.
 one_keeps : (from : WorldState) (one : Done) → CanReply from → one.before ≡ from → Happens one.before one.event one.reply one.after → CanReply one.after
 one_keeps from one can is happens =
     keeps_reply one.before one.after one.event one.reply (subst CanReply (sym is) can) happens
@@ -36,7 +36,7 @@ pub all_keep : (from : WorldState) (past : List Done) (to : WorldState) → CanR
 all_keep from [] to can leads = subst CanReply leads can
 all_keep from (one ∷ others) to can leads = all_keep one.after others to (one_keeps from one can leads.0 leads.1) leads.2
 
--- The same list of events is done, and leads to the same world.
+-- The same list of events leads to the same world.
 abbrev pub SameDone : List Done → List Done → WorldState → WorldState → Type 0
 SameDone past other to end = (past ≡ other) × (to ≡ end)
 
@@ -56,7 +56,7 @@ leads_once from (one ∷ others) (two ∷ more) to end can same leads leads_too 
 
 -- ---- What is served
 
--- A find of a world was not both answered and missed.
+-- A find in a world is not both answered and missed.
 not_both : (from : WorldState) (instance : ℕ) (one other : Done) → CanReply from → one.event ≡ event.Find instance → other.event ≡ event.Find instance
     → one.reply ≡ reply.Found → other.reply ≡ reply.Missed → one.before ≡ from → other.before ≡ from
     → Happens one.before one.event one.reply one.after → Happens other.before other.event other.reply other.after → ⊥
@@ -147,7 +147,7 @@ module _ (seed workers : ℕ) where
       (subst (λ w. AreRounds seed workers (suc number) w rounds to) first.1 one.3) two.3 in
       (λ i. first.0 i ∷ rest.0 i, rest.1)
 
-  -- The run has ended behind them.
+  -- The run has ended after them.
   pub rounds_end : (number : ℕ) (from : WorldState) (rounds : List (List Done)) (to : WorldState) → AreRounds seed workers number from rounds to
       → is_ended to.run.phase ≡ true
   rounds_end number from [] to are = ap (λ (w : WorldState). is_ended w.run.phase) (sym are.1) ∙ are.0

@@ -1,4 +1,4 @@
--- There are rounds until the run has ended: each goes along the one trace of the run, or makes a step anew.
+-- There are rounds until the run has ended: each goes along the one trace of the run, or goes to a redo.
 use Rattle.std.proofs.Common.{◌≡◌, ◌∙◌, ℕ, suc, ◌*◌, Bool, true, false, List, [], ◌∷◌, ◌++◌, map, length, refl, sym, ap, subst, arith, inl, inr, ◌⊎◌}
 use Rattle.std.specs.List.{AllByRecursion, range_with_len}
 use Rattle.list_laws.proofs.Truths.{true_is_false}
@@ -37,7 +37,7 @@ pub record IsAnew (stand : Stand) (phase : Phase) (new : RunState) : Type 0 wher
   pub redo : new.phase ≡ Redo shorter
   pub stays : new.stand ≡ stand
 
--- From a stand and a phase it came to the redo there, to the next stand, or to its end.
+-- From a stand and a phase the run came to the redo there, to the next stand, or to its end.
 abbrev pub IsCourse : Composition → Stand → Phase → RunState → Type 0
 IsCourse run stand phase new = IsAnew stand phase new ⊎ (Goes run stand new.stand ⊎ (is_ended new.phase ≡ true))
 
@@ -53,7 +53,7 @@ settled_course old new settle.Row (moves, known) = inr (inl moves.goes)
 settled_course old new settle.Ended (inl (moves, unknown)) = inr (inl moves.goes)
 settled_course old new settle.Ended (inr ended) = inr (inr (ap (λ (r : RunState). is_ended r.phase) ended.is))
 
--- There is a round from a world, and what comes of it.
+-- There is a round from a world, with its result.
 pub record HasRound (seed workers number : ℕ) (from : WorldState) : Type 0 where
   pub past : List Done
   pub to : WorldState
@@ -72,7 +72,7 @@ settles_there world to told going full (inr refused) = by refused.refused
     by (inl ended) = true_is_false (is_ended world.run.phase) ended going
     by (inr not_full) = absurd (not_full full)
 
--- The course of a run that is where it was.
+-- The course of a run that is still at its stand.
 from_still : (old mid new : RunState) → IsStill old mid → IsCourse mid.plan.run mid.stand mid.phase new → IsCourse old.plan.run old.stand old.phase new
 from_still old mid new still course =
     subst (λ phase. IsCourse old.plan.run old.stand phase new) still.phase
@@ -163,7 +163,7 @@ module _ (seed workers : ℕ) where
   one_more number from round going later = (round.past ∷ later.0, later.1, (going, round.to, round.is_round, later.2))
 
   module _ (run : Composition) where
-    -- There are rounds from wherever a run of the composition goes on to from a stand.
+    -- There are rounds from wherever a run of the composition goes from a stand.
     abbrev GoOnFrom : Stand → Type 0
     GoOnFrom stand = (next : WorldState) (number : ℕ) → CanReply next → next.run.plan.run ≡ run → Goes run stand next.run.stand → HaveRounds number next
 
@@ -172,7 +172,7 @@ module _ (seed workers : ℕ) where
     go_from stand here number later can same on =
         later here number can same (subst (λ one. Goes one stand here.run.stand) same on)
 
-    -- Behind a redo comes the next stand, or the end.
+    -- After a redo comes the next stand, or the end.
     behind_redo : (stand : Stand) (here : WorldState) (number k : ℕ) → GoOnFrom stand → CanReply here → here.run.plan.run ≡ run
         → here.run.phase ≡ Redo k → here.run.stand ≡ stand → HaveRounds number here
     behind_redo stand here number k later can same redo at =

@@ -1,4 +1,4 @@
--- What is done for one instance, and what settling came to.
+-- What is done for one instance, and the result of settling.
 use Rattle.std.proofs.Common.{◌≡◌, ◌∙◌, ℕ, [], ◌∷◌, inl, inr, refl, sym, ap, subst, arith}
 use Rattle.spec_core.specs.Events.{Happens}
 use Rattle.spec_core.specs.Rounds.{AreFew, Serves, with_reply}
@@ -12,12 +12,12 @@ use Rattle.trace_core.specs.Runs.{IsWanted}
 use Rattle.trace_core.specs.Settling.{Settled}
 use Rattle.trace_core.specs.declared.phase.Settle.{Settle}
 
--- Nothing where no step is wanted.
+-- Nothing is done where no step is required.
 pub serves_none : (instance : ℕ) (from : WorldState) (told : Replies) → (IsWanted from.run instance → ⊥) → AreFew told → Serves instance from told from told
 serves_none instance from told unwanted few =
     record { past = []; serves = unwanted; leads = refl; counted = refl; few = few; most = omega arith }
 
--- A step that is wanted is found, where it is not missed.
+-- A required step is found, where it is not missed.
 is_found : (instance : ℕ) (from to : WorldState) (said : Reply) → IsWanted from.run instance → Happens from (event.Find instance) said to
     → (said ≡ reply.Missed → ⊥) → said ≡ reply.Found
 is_found instance from to said wanted (inl (inl finds)) not = finds.replied
@@ -54,7 +54,7 @@ serves_made instance from middle to told mid now missed said wanted finds is_mis
 same_settled : (one other : Settle) → reply.Settled one ≡ reply.Settled other → one ≡ other
 same_settled one other is = cc
 
--- What was told is what it came to.
+-- The reply is the result.
 pub settled_so : (from to : WorldState) (settled : Settle) → Happens from event.Settle (reply.Settled settled) to → Settled from.run to.run settled
 settled_so from to settled (inl does) = subst (Settled from.run to.run) (same_settled does.to settled (sym does.replied)) does.settled
 settled_so from to settled (inr refuses) = absurd (differ refuses.replied)

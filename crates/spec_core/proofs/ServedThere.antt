@@ -1,4 +1,4 @@
--- Events can be done one after the other, and each instance can be served, behind which nothing of it is wanted.
+-- Events can be applied one after the other, and each instance can be served. After that no step of it is required.
 use Rattle.std.proofs.Common.{◌≡◌, ◌≢◌, ◌∙◌, ℕ, zero, suc, ◌+◌, ◌<◌, ◌≤◌, List, [], ◌∷◌, ◌++◌, Some, Result, refl, sym, ap, subst, arith, inl, inr}
 use Rattle.std.specs.List.{AllByRecursion}
 use Rattle.fixed_words.specs.declared.types.Fault.{Fault}
@@ -19,7 +19,7 @@ use Rattle.unit_tree.specs.Components.{Moved}
 
 -- ---- Events one after the other
 
--- Events were done, one after the other.
+-- Events were applied, one after the other.
 pub record AreDone (from : WorldState) (events : List Event) : Type 0 where
   pub past : List Done
   pub to : WorldState
@@ -38,7 +38,7 @@ all_done from (what ∷ events) can =
       leads = (refl, first.2, rest.leads);
     }
 
--- Events beside the run leave it as it is.
+-- Events that are not of the run leave it as it is.
 pub beside_all : (from : WorldState) (past : List Done) (to : WorldState) → AllByRecursion IsBeside (events_of past) → Leads from past to → to.run ≡ from.run
 beside_all from [] to beside leads = ap (λ (w : WorldState). w.run) (sym leads)
 beside_all from (one ∷ others) to beside leads =
@@ -47,18 +47,18 @@ beside_all from (one ∷ others) to beside leads =
 
 -- ---- An instance is served
 
--- The run is where it was, in its phase.
+-- The run is at its stand, in its phase.
 pub record IsStill (old new : RunState) : Type 0 where
   pub plan : new.plan ≡ old.plan
   pub stand : new.stand ≡ old.stand
   pub phase : new.phase ≡ old.phase
 
--- The run is still there; no more is wanted than was, and nothing of the instance.
+-- The run still exists. No further steps are required, and none of the instance.
 record IsServedIn (old : RunState) (instance : ℕ) (new : RunState) : Type 0 where
   pub still : IsStill old new
   pub done_with : (other : ℕ) → IsWanted new other → (other ≢ instance) × IsWanted old other
 
--- It is so where the cell of the instance was filled.
+-- This holds where the cell of the instance was filled.
 filled_serves : (r : RunState) (instance found own : ℕ) (step : Result Moved Fault) → IsServedIn r instance (filled r instance step found own)
 filled_serves r instance found own step = record {
   still = record { plan = refl; stand = refl; phase = refl };
@@ -73,7 +73,7 @@ served_so : (from to : WorldState) (now : RunState) (instance : ℕ) → to ≡ 
     → IsServedIn from.run instance to.run
 served_so from to now instance is serves = subst (λ (w : WorldState). IsServedIn from.run instance w.run) (sym is) serves
 
--- What was done to serve an instance.
+-- The history of serving an instance.
 record IsServedTo (from : WorldState) (instance : ℕ) : Type 0 where
   pub past : List Done
   pub to : WorldState
@@ -132,7 +132,7 @@ serve from instance can =
 
 -- ---- All instances are served
 
--- What was done to serve so many instances from a number on: nothing is wanted of them.
+-- The history of serving so many instances from this number on: after it none of their steps is required.
 pub record AreServedTo (from : WorldState) (instance count : ℕ) : Type 0 where
   pub past : List Done
   pub to : WorldState

@@ -16,7 +16,7 @@ use Rattle.spec_core.specs.declared.event.Event.TheVariants as event
 use Rattle.spec_core.proofs.EndLaws.{hand_read, hand_there, hand_within, hands_set}
 use Rattle.spec_core.proofs.WorldLaws.{keeps_steal, keeps_take}
 
--- A ticket is of the lane that gives it.
+-- A ticket is of the lane that makes it.
 of_lane : (lane : LaneState) (stopped : Bool) (need : Option Need) (ticket : TicketState)
     → (if stopped then None else option_map (ticket_for lane) need) ≡ Some ticket → ticket.instance ≡ lane.instance
 of_lane lane true need ticket is = absurd (cc)

@@ -1,4 +1,4 @@
--- What every world keeps, after each change of its parts.
+-- The invariant of a world, after each change of its parts.
 use Rattle.std.proofs.Common.{◌≡◌, ◌∙◌, ℕ, zero, suc, List, [], ◌∷◌, ◌++◌, set, map, length, Some, refl, sym, ap, subst, arith, length-set}
 use Rattle.std.proofs.lemmas.Option.{same_Some, slice_get-map}
 use Rattle.std.specs.List.{AllByRecursion}
@@ -36,7 +36,7 @@ module _ (world : WorldState) (is : IsWorld world) where
   abbrev run : Composition
   run = world.run.plan.run
 
-  -- A lane as it was, in other hands.
+  -- An unchanged lane, with other hands.
   in_other_hands : (hands : List (List TicketState)) (instance : ℕ) (lane : LaneState) → slice_get world.lanes instance ≡ Some lane
       → AreInHands instance lane.journal.outstanding hands → IsLaneOf run hands instance lane
   in_other_hands hands instance lane at out =

@@ -1,4 +1,4 @@
--- What events do to a world, and where they are refused.
+-- The effects of events on a world, and where they are refused.
 use Rattle.std.specs.Prelude.{◌≡◌, ◌≢◌, ℕ, true, false, ℤ, List, [], ◌∷◌, ◌++◌, ◌+◌, length, take, Some, None, slice_get, slice_set, ◌⊎◌}
 use Rattle.guess_board.specs.Chains.{chain_of, code_of}
 use Rattle.guess_board.specs.Events.{backed, found, is_full, posted, published, taken, ticket_of}
@@ -32,8 +32,8 @@ with_run world run = record world { run = run }
 
 -- ---- Publish
 
--- The lane of an instance is published with the state where the run stands, and with the line that is guessed from there. The reply
--- tells how many answers it kept.
+-- The lane of an instance is published with its state at the run's stand, and with the line that is guessed from there. The
+-- reply says how many answers it kept.
 pub record Publishes (world : WorldState) (instance : ℕ) (told : Reply) (new : WorldState) : Type 0 where
   pub going : is_ended world.run.phase ≡ false
   pub lane : LaneState
@@ -48,7 +48,7 @@ pub record Publishes (world : WorldState) (instance : ℕ) (told : Reply) (new :
 
 -- ---- Tickets and hands
 
--- A worker takes the ticket that a lane gives, and puts it last in its hand.
+-- A worker takes the ticket that a lane makes, and appends it to its hand.
 pub record Takes (world : WorldState) (worker instance : ℕ) (told : Reply) (new : WorldState) : Type 0 where
   pub hand : List TicketState
   pub is_hand : slice_get world.hands worker ≡ Some hand
@@ -59,7 +59,7 @@ pub record Takes (world : WorldState) (worker instance : ℕ) (told : Reply) (ne
   pub is : new ≡ with_hand (with_lane world instance (taken lane)) worker (hand ++ ticket ∷ [])
   pub replied : told ≡ reply.Taken
 
--- A worker has a ticket that goes first, and others behind it.
+-- A worker has this first ticket, and the others after it.
 abbrev pub HasFirst : WorldState → ℕ → TicketState → List TicketState → Type 0
 HasFirst world worker ticket others = slice_get world.hands worker ≡ Some (ticket ∷ others)
 
@@ -74,11 +74,11 @@ pub record Steals (world : WorldState) (worker from : ℕ) (told : Reply) (new :
   pub is : new ≡ with_hand (with_hand world from others) worker (hand ++ ticket ∷ [])
   pub replied : told ≡ reply.Stolen
 
--- The lane of a ticket after the answers to so many of its cells were posted: what its start and these cells give from scratch.
+-- The lane of a ticket after the answers to so many of its cells were posted: the chain that its start and these cells determine.
 abbrev pub posted_by : LaneState → TicketState → ℕ → LaneState
 posted_by lane ticket cells = posted lane ticket.number (chain_of (code_of lane.image) ticket.start (take cells ticket.cells))
 
--- A worker posts the answers to the first of its tickets. The reply tells how many were appended.
+-- A worker posts the answers to the first of its tickets. The reply says how many were appended.
 pub record Posts (world : WorldState) (worker cells : ℕ) (told : Reply) (new : WorldState) : Type 0 where
   pub ticket : TicketState
   pub others : List TicketState
@@ -90,7 +90,7 @@ pub record Posts (world : WorldState) (worker cells : ℕ) (told : Reply) (new :
   pub appended_is : appended + length lane.answers ≡ length (posted_by lane ticket cells).answers
   pub replied : told ≡ reply.Posted appended
 
--- A worker gives the first of its tickets back.
+-- A worker gives back the first of its tickets.
 pub record GivesBack (world : WorldState) (worker : ℕ) (told : Reply) (new : WorldState) : Type 0 where
   pub ticket : TicketState
   pub others : List TicketState
@@ -102,13 +102,13 @@ pub record GivesBack (world : WorldState) (worker : ℕ) (told : Reply) (new : W
 
 -- ---- The run
 
--- What a step of an instance is wanted for, and the lane in which it is looked for.
+-- The key of an instance's required step, and the lane in which the run looks for it.
 pub record Looks (world : WorldState) (instance : ℕ) (lane : LaneState) (key : StepKey) : Type 0 where
   pub wanted : IsWanted world.run instance
   pub is_key : IsKeyAt world.run instance key
   pub is_lane : slice_get world.lanes instance ≡ Some lane
 
--- The run finds an answer to the step that is wanted of an instance, and takes it.
+-- The run finds an answer to the required step of an instance, and accepts it.
 pub record Finds (world : WorldState) (instance : ℕ) (told : Reply) (new : WorldState) : Type 0 where
   pub lane : LaneState
   pub key : StepKey
@@ -118,7 +118,7 @@ pub record Finds (world : WorldState) (instance : ℕ) (told : Reply) (new : Wor
   pub is : new ≡ with_run world (with_found world.run instance one.answer)
   pub replied : told ≡ reply.Found
 
--- It finds none.
+-- The run finds none.
 pub record Misses (world : WorldState) (instance : ℕ) (told : Reply) (new : WorldState) : Type 0 where
   pub lane : LaneState
   pub key : StepKey
@@ -127,14 +127,14 @@ pub record Misses (world : WorldState) (instance : ℕ) (told : Reply) (new : Wo
   pub is : new ≡ world
   pub replied : told ≡ reply.Missed
 
--- It makes the step itself.
+-- The run makes the step itself.
 pub record Computes (world : WorldState) (instance : ℕ) (told : Reply) (new : WorldState) : Type 0 where
   pub wanted : IsWanted world.run instance
   pub computed : IsComputed world.run instance new.run
   pub is : new ≡ with_run world new.run
   pub replied : told ≡ reply.Computed
 
--- It goes on when all steps of its phase are there.
+-- The run settles its phase, when all steps of it are made.
 pub record Settles (world : WorldState) (told : Reply) (new : WorldState) : Type 0 where
   pub to : Settle
   pub going : is_ended world.run.phase ≡ false
@@ -151,11 +151,11 @@ pub record HasTicket (world : WorldState) (worker : ℕ) : Type 0 where
   pub others : List TicketState
   pub first : HasFirst world worker ticket others
 
--- The worker has no ticket, or isn't there.
+-- The worker has no ticket, or doesn't exist.
 abbrev pub HasNoTicket : WorldState → ℕ → Type 0
 HasNoTicket world worker = (ticket : TicketState) (others : List TicketState) → HasFirst world worker ticket others → ⊥
 
--- An event is refused exactly where there is no such instance or no such worker, or the run, the lane or the hand can't do it.
+-- An event is refused exactly where there is no such instance or worker, or where the run, the lane or the hand can't do it.
 abbrev pub IsRefused : WorldState → Event → Type 0
 IsRefused world (event.Publish instance) =
     (is_ended world.run.phase ≡ true) ⊎ ((lane : LaneState) → slice_get world.lanes instance ≡ Some lane → is_full lane ≡ true)
@@ -168,7 +168,7 @@ IsRefused world (event.Find instance) = IsWanted world.run instance → ⊥
 IsRefused world (event.Compute instance) = IsWanted world.run instance → ⊥
 IsRefused world event.Settle = (is_ended world.run.phase ≡ true) ⊎ (AreCellsFull world.run.cells → ⊥)
 
--- It is refused, and changes nothing.
+-- The event is refused, and changes nothing.
 pub record Refuses (world : WorldState) (one : Event) (told : Reply) (new : WorldState) : Type 0 where
   pub refused : IsRefused world one
   pub is : new ≡ world
@@ -176,7 +176,7 @@ pub record Refuses (world : WorldState) (one : Event) (told : Reply) (new : Worl
 
 -- ---- The table of events
 
--- What an event does, where it isn't refused.
+-- The effect of an event that isn't refused.
 abbrev pub Does : WorldState → Event → Reply → WorldState → Type 0
 Does world (event.Publish instance) = Publishes world instance
 Does world (event.Take worker instance) = Takes world worker instance

@@ -1,4 +1,4 @@
--- What was done to a world, as a list of events with their replies, and what holds of every such list.
+-- The history of a world, as a list of events with their replies, and what holds of every such list.
 use Rattle.std.specs.Prelude.{◌≡◌, ℕ, ◌==◌, List, [], ◌∷◌, ◌++◌, length, take, drop, if◌then◌else◌, Some, Result, slice_get, ◌⊎◌}
 use Rattle.std.specs.List.{Contains, flat_map}
 use Rattle.fixed_words.specs.declared.types.Fault.{Fault}
@@ -29,22 +29,22 @@ pub record Done : Type 0 where
   pub reply : Reply
   pub after : WorldState
 
--- What was done leads from one world to another: each event happened to the world that the one before it left.
+-- A history leads from one world to another: each event happened to the world that the one before it left.
 abbrev pub Leads : WorldState → List Done → WorldState → Type 0
 Leads from [] to = from ≡ to
 Leads from (one ∷ others) to = (one.before ≡ from) × Happens one.before one.event one.reply one.after × Leads one.after others to
 
 -- ---- Where the run has been
 
--- The stand that the run left in an event: its number rose.
+-- The stand that the run left by an event: its number rose.
 abbrev pub left_in : Done → List Stand
 left_in one = if one.after.run.stand.at.number == one.before.run.stand.at.number then [] else one.before.run.stand ∷ []
 
--- The stands that the run has reached, in their order, the last of them that at which it stands now.
+-- The stands that the run has reached, in their order. The last of them is its present one.
 abbrev pub stands_reached : List Done → WorldState → List Stand
 stands_reached past now = flat_map left_in past ++ (now.run.stand ∷ [])
 
--- Stands begin every trace of a run: they are its first ones, in order, and none is skipped.
+-- Stands are a prefix of every trace of a run.
 abbrev pub BeginTraces : Composition → List Stand → Type 0
 BeginTraces run reached = (stands : List Stand) (ending : Ending) → IsTrace run stands ending → take (length reached) stands ≡ reached
 
@@ -69,8 +69,7 @@ pub record WasPosted (past : List Done) (instance : ℕ) (one : Answered) : Type
   pub is_new : slice_get post.after.lanes instance ≡ Some new
   pub appended : Contains (drop (length old.answers) new.answers) one
 
--- The answer that a find took: the first of the instance's lane, with the key of the step that was wanted, and which was posted
--- before.
+-- The answer that a find accepted: the first of the instance's lane, with the key of the required step. It was posted before.
 pub record WasFound (earlier : List Done) (find : Done) (instance : ℕ) (step : Result Moved Fault) : Type 0 where
   pub is_find : find.event ≡ event.Find instance
   pub replied : find.reply ≡ reply.Found
@@ -88,7 +87,7 @@ pub record WasComputed (compute : Done) (instance : ℕ) : Type 0 where
   pub is_compute : compute.event ≡ event.Compute instance
   pub replied : compute.reply ≡ reply.Computed
 
--- The cell of an instance was filled in the phase in which the run stands, by a find or a compute.
+-- The cell of an instance was filled in the present phase of the run, by a find or a compute.
 pub record WasFilled (past : List Done) (now : WorldState) (instance : ℕ) (step : Result Moved Fault) : Type 0 where
   pub earlier : List Done
   pub fill : Done
@@ -101,15 +100,15 @@ pub record WasFilled (past : List Done) (now : WorldState) (instance : ℕ) (ste
 
 -- ---- What holds of every list of events
 
--- What was done tells where the run is and what it holds: the stands that it has reached begin the one trace; each filled cell
--- was filled by a find or a compute; each answer in a lane was posted.
+-- A history determines where the run is and what it has. The stands that it has reached are a prefix of the one trace. Each
+-- filled cell was filled by a find or a compute. Each answer in a lane was posted.
 pub record IsTold (run : Composition) (past : List Done) (now : WorldState) : Type 0 where
   pub reached : BeginTraces run (stands_reached past now)
   pub filled : (instance : ℕ) (step : Result Moved Fault) → slice_get now.run.cells instance ≡ Some (Filled step) → WasFilled past now instance step
   pub answered : (instance : ℕ) (lane : LaneState) (one : Answered) → slice_get now.lanes instance ≡ Some lane → Contains lane.answers one
       → WasPosted past instance one
 
--- From an opened world, whatever was done.
+-- This holds from an opened world, for every history.
 abbrev pub EveryInterleavingIsTold : Type 0
 EveryInterleavingIsTold =
     (plan : Planned) (workers window : ℕ) (policy : Policy) (opened now : WorldState) (past : List Done)

@@ -1,4 +1,4 @@
--- How a world is kept, and what its parts do.
+-- How the code keeps a world, and what its parts do.
 use Rattle.std.specs.Prelude.{◌≡◌, ◌+◌, ℕ, map, Bool, true, false, List, [], ◌∷◌, ◌++◌, length, Some, None, Result, Ok, Err, Vec, slice_get, slice_set}
 use Rattle.std.specs.Global.{Global}
 use Rattle.std.specs.List.{AllZip}
@@ -14,14 +14,14 @@ use Rattle.spec_core.specs.declared.event.Reply.TheVariants as reply
 use Rattle.spec_core.specs.declared.world.World.TheInside.{Inside}
 use Rattle.unit_exec.specs.Running.{Running}
 
--- A hand as it is held.
+-- A hand, as the code has it.
 abbrev pub Held : Type 0
 Held = Vec TicketState Global
 
 abbrev pub tickets_of : List Held → List (List TicketState)
 tickets_of hands = map (λ hand. hand.items) hands
 
--- What contracts see of it.
+-- What contracts see of a world.
 abbrev pub world_state : Inside → WorldState
 world_state world = record {
   run = world.run;
@@ -31,11 +31,11 @@ world_state world = record {
   hands = tickets_of world.hands.items;
 }
 
--- The unit by which answers to a lane's tickets are made has the image of the lane.
+-- The unit that makes the answers to a lane's tickets has the image of the lane.
 abbrev pub IsUnitOf : LaneState → Running → Type 0
 IsUnitOf lane unit = unit.image ≡ lane.image
 
--- Each of the lanes keeps what every lane does.
+-- Each of the lanes has the invariant of lanes.
 abbrev pub AreLanes : List LaneState → Type 0
 AreLanes lanes = (instance : ℕ) (lane : LaneState) → slice_get lanes instance ≡ Some lane → IsLane lane
 
@@ -78,7 +78,7 @@ pub record MovesFirst (old : List (List TicketState)) (to from : ℕ) (new : Lis
   pub is_hand : slice_get old to ≡ Some hand
   pub is : new ≡ slice_set (slice_set old from others) to (hand ++ ticket ∷ [])
 
--- The first ticket of a hand is of the lane, fits it, and can be worked off by the unit.
+-- The first ticket of a hand is of the lane, fits it, and the unit can answer it.
 pub record CanPost (lane : LaneState) (unit : Running) (hand : List TicketState) : Type 0 where
   pub ticket : TicketState
   pub others : List TicketState

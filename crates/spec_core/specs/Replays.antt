@@ -1,4 +1,4 @@
--- The replay of a seed: rounds of events, of which those of the workers are drawn, until the run has ended; and what came of them.
+-- The replay of a seed: rounds of events until the run has ended, in which the events of the workers are drawn; and its counts.
 use Rattle.std.specs.Prelude.{◌≡◌, ℕ, zero, suc, ◌*◌, ◌/◌, ◌%◌, ◌==◌, nat_lt, Bool, true, false, List, [], ◌∷◌, ◌++◌, length, map}
 use Rattle.std.specs.Prelude.{if◌then◌else◌, Option}
 use Rattle.std.specs.Io.KnownBytes.{Appends}
@@ -25,7 +25,7 @@ use Rattle.unit_tree.specs.declared.system.System.{System}
 
 -- ---- Drawn events
 
--- What a worker does by a kind from 0 to 7, and a number that chooses the instance or the worker from which it steals.
+-- The event of a worker, by a kind from 0 to 7 and a number that chooses the instance or the worker from which it steals.
 abbrev pub event_of_kind : ℕ → ℕ → ℕ → ℕ → ℕ → Event
 event_of_kind workers instances worker kind choice =
     if nat_lt kind 3 then event.Take worker (choice % instances)
@@ -33,7 +33,7 @@ event_of_kind workers instances worker kind choice =
     else (if kind == 6 then event.Steal worker (choice % workers)
     else event.Back worker))
 
--- The event of a draw: what it leaves of the number of workers tells the worker, and what the rest leaves of 8 the kind.
+-- The event of a draw. Its remainder by the number of workers is the worker, and the quotient's remainder by 8 the kind.
 abbrev pub worker_event : ℕ → ℕ → ℕ → Event
 worker_event x workers instances = event_of_kind workers instances (x % workers) (x / workers % 8) (x / workers / 8)
 
@@ -46,7 +46,7 @@ drawn_events seed place workers instances = map (λ at. worker_event (draw seed 
 abbrev pub events_of : List Done → List Event
 events_of past = map (λ one. one.event) past
 
--- What is done for an instance: where its step is wanted it is looked for, and made where nothing is found; else nothing is done.
+-- What is done for an instance: its step is looked for where it is required, and made where nothing is found. Otherwise nothing.
 abbrev pub IsServed : RunState → ℕ → List Done → Type 0
 IsServed run instance [] = IsWanted run instance → ⊥
 IsServed run instance (find ∷ []) = IsWanted run instance × (find.event ≡ event.Find instance) × (find.reply ≡ reply.Found)
@@ -54,15 +54,15 @@ IsServed run instance (find ∷ compute ∷ []) =
     IsWanted run instance × (find.event ≡ event.Find instance) × (find.reply ≡ reply.Missed) × (compute.event ≡ event.Compute instance)
 IsServed run instance (find ∷ compute ∷ other ∷ others) = ⊥
 
--- What is done for so many instances from a number on, one after the other.
+-- What is done for so many instances from this number on, one after the other.
 abbrev pub AreServed : WorldState → ℕ → ℕ → List Done → WorldState → Type 0
 AreServed from instance zero past to = (past ≡ []) × (from ≡ to)
 AreServed from instance (suc count) past to =
     (first : List Done) × (middle : WorldState) × (others : List Done) × (past ≡ first ++ others)
     × IsServed from.run instance first × Leads from first middle × AreServed middle (suc instance) count others to
 
--- A round: all lanes are published, the workers do what is drawn, all steps that are wanted are looked for or made, and the run
--- settles. Rounds are counted from 0.
+-- A round: all lanes are published, the workers do what is drawn, all required steps are found or made, and the run settles.
+-- Rounds are counted from 0.
 pub record IsRound (seed workers number : ℕ) (from : WorldState) (past : List Done) (to : WorldState) : Type 0 where
   pub published : List Done
   pub lined : WorldState
@@ -82,14 +82,14 @@ pub record IsRound (seed workers number : ℕ) (from : WorldState) (past : List 
 
 -- ---- All rounds
 
--- From the round of a number on they follow each other, until the run has ended.
+-- From the round with this number on, rounds follow each other until the run has ended.
 abbrev pub AreRounds : ℕ → ℕ → ℕ → WorldState → List (List Done) → WorldState → Type 0
 AreRounds seed workers number from [] to = (is_ended from.run.phase ≡ true) × (from ≡ to)
 AreRounds seed workers number from (round ∷ rounds) to =
     (is_ended from.run.phase ≡ false) × (middle : WorldState) × IsRound seed workers number from round middle
     × AreRounds seed workers (suc number) middle rounds to
 
--- Whatever is done in the replay of a seed, from the opened world, whose lines are guessed for 4 rows by words that stay.
+-- The events of the replay of a seed, from the opened world. Lines are guessed for 4 rows by words that stay.
 pub record IsReplay (plan : Planned) (seed workers : ℕ) (past : List Done) (to : WorldState) : Type 0 where
   pub opened : WorldState
   pub is_opened : IsOpenedWorld plan workers 4 Hold opened
@@ -98,7 +98,7 @@ pub record IsReplay (plan : Planned) (seed workers : ℕ) (past : List Done) (to
   pub follow : AreRounds seed workers 0 opened rounds to
   pub is : past ≡ flat_map (λ round. round) rounds
 
--- ---- What came of it
+-- ---- The counts of a replay
 
 abbrev pub is_refused : Reply → Bool
 is_refused reply.Refused = true
@@ -131,7 +131,7 @@ appended_by _ = 0
 abbrev pub replies_of : List Done → List Reply
 replies_of past = map (λ one. one.reply) past
 
--- The counts are numbers of the replies, how many tickets are left in the hands, and how and where the run ended.
+-- The counts are those of the replies, how many tickets are left in the hands, and how and where the run ended.
 pub record AreCounts (past : List Done) (to : WorldState) (counts : Counts) : Type 0 where
   pub outcome : to.run.phase ≡ Ended counts.outcome
   pub last : counts.last ≡ to.run.stand.at.point
@@ -152,9 +152,9 @@ pub record IsReplayed (plan : Planned) (seed workers : ℕ) (counts : Counts) : 
   pub replay : IsReplay plan seed workers past to
   pub counted : AreCounts past to counts
 
--- ---- What a replay puts
+-- ---- What a replay writes
 
--- The text of the system's trace was put, which ended so.
+-- The text of the system's trace was written; the trace ended in this way.
 pub record PutsTrace (system : System) (last : Point) (outcome : Ending) (old new : Option (List ℕ)) : Type 0 where
   pub rows : List Row
   pub trace : IsTraceOf system rows last outcome
@@ -162,8 +162,8 @@ pub record PutsTrace (system : System) (last : Point) (outcome : Ending) (old ne
 
 -- ---- What holds of replays
 
--- A system whose run has an order, its members and images, and is bounded, is replayed by every seed, with any number of workers that
--- there may be, and in one way: there are no two counts of it.
+-- A plan whose run has an order, its members and images, and is bounded, has a replay for every seed and every allowed number of
+-- workers. There is only one: no two counts of it differ.
 pub record CanReplay (plan : Planned) : Type 0 where
   pub composed : plan.run ≡ run_of plan.system
   pub order : List ℕ

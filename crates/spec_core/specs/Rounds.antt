@@ -1,4 +1,4 @@
--- How the rounds of a replay are done part by part, and how their replies are counted.
+-- How the rounds of a replay are made part by part, and how their replies are counted.
 use Rattle.std.specs.Prelude.{◌≡◌, ◌≤◌, ◌+◌, ◌*◌, ℕ, zero, suc, Bool, cond, List, [], ◌∷◌, ◌++◌, length, map, Option, Result, Ok, Err}
 use Rattle.std.specs.List.{flat_map, range_with_len}
 use Rattle.draw_numbers.specs.Draws.{draw, draw_start, next_draw}
@@ -30,7 +30,7 @@ use Rattle.unit_tree.specs.declared.ending.Ending.{Ending}
 abbrev pub no_replies : Replies
 no_replies = record { events = 0; refused = 0; found = 0; own = 0; tickets = 0; posted = 0; back = 0; appended = 0 }
 
--- The counts with one reply more.
+-- The counts after one more reply.
 abbrev pub with_reply : Replies → Reply → Replies
 with_reply counts told = record {
   events = counts.events + 1;
@@ -43,12 +43,12 @@ with_reply counts told = record {
   appended = counts.appended + appended_by told;
 }
 
--- The counts with the replies to all that was done.
+-- The counts after the replies of a history.
 abbrev pub with_replies : Replies → List Done → Replies
 with_replies counts [] = counts
 with_replies counts (one ∷ others) = with_replies (with_reply counts one.reply) others
 
--- No count is more than that of all events, each of which appends fewer answers than 2^32.
+-- No count is more than that of all events, each of which appends fewer than 2^32 answers.
 pub record AreFew (counts : Replies) : Type 0 where
   pub refused : counts.refused ≤ counts.events
   pub found : counts.found ≤ counts.events
@@ -60,7 +60,7 @@ pub record AreFew (counts : Replies) : Type 0 where
 
 -- ---- Parts of a round
 
--- These events were done, and counted.
+-- These events were applied, and counted.
 pub record DoesAll (events : List Event) (from : WorldState) (told : Replies) (to : WorldState) (now : Replies) : Type 0 where
   pub past : List Done
   pub events_are : events_of past ≡ events
@@ -72,17 +72,17 @@ pub record DoesAll (events : List Event) (from : WorldState) (told : Replies) (t
 abbrev pub publishes : ℕ → List Event
 publishes instances = map event.Publish (range_with_len 0 instances)
 
--- The draw after a number by so many.
+-- The draw that comes so many after this number.
 abbrev pub draw_after : ℕ → ℕ → ℕ
 draw_after x zero = x
 draw_after x (suc count) = next_draw (draw_after x count)
 
--- So many events of workers, drawn after a number.
+-- So many events of workers, drawn after this number.
 abbrev pub drawn_from : ℕ → ℕ → ℕ → ℕ → List Event
 drawn_from x workers instances zero = []
 drawn_from x workers instances (suc count) = drawn_from x workers instances count ++ worker_event (draw_after x (suc count)) workers instances ∷ []
 
--- What was done for one instance, and for the first so many.
+-- One instance was served, or the first so many.
 pub record Serves (instance : ℕ) (from : WorldState) (told : Replies) (to : WorldState) (now : Replies) : Type 0 where
   pub past : List Done
   pub serves : IsServed from.run instance past
@@ -100,7 +100,7 @@ pub record AreServedAll (instances : ℕ) (from : WorldState) (told : Replies) (
 
 -- ---- A round
 
--- A round was made, and settling came to this.
+-- A round was made, with this result of settling.
 pub record MakesRound (workers : ℕ) (old : Course) (settled : Settle) (new : Course) : Type 0 where
   pub lined : WorldState
   pub told_lined : Replies
@@ -118,13 +118,12 @@ pub record MakesRound (workers : ℕ) (old : Course) (settled : Settle) (new : C
 
 -- ---- Rounds
 
--- What stands before the draw of a place.
+-- The number before the draw at a place.
 abbrev pub before_draw : ℕ → ℕ → ℕ
 before_draw seed zero = draw_start seed
 before_draw seed (suc place) = draw seed place
 
--- Rounds were made, which lead from one course to the other: whatever rounds follow behind them, all are rounds from where these
--- began.
+-- Rounds were made that lead from one replay to the other. With any rounds after them, all are rounds from where these began.
 pub record GoesRounds (workers : ℕ) (old new : Course) : Type 0 where
   pub rounds : List (List Done)
   pub counted : new.replies ≡ with_replies old.replies (flat_map (λ round. round) rounds)
@@ -133,23 +132,23 @@ pub record GoesRounds (workers : ℕ) (old new : Course) : Type 0 where
   pub follow : (seed number : ℕ) → old.draw ≡ before_draw seed (2 * workers * number) → (rest : List (List Done)) (to : WorldState)
       → AreRounds seed workers (number + length rounds) new.world rest to → AreRounds seed workers number old.world (rounds ++ rest) to
 
--- The run went on from a row, by rounds; so many events were counted for it.
+-- The run went on from a row, by rounds, and so many events were counted for it.
 pub record Advances (workers : ℕ) (old new : Course) (came : Bool) : Type 0 where
   pub went : WentOn old.world.run new.world.run came
   pub rounds : GoesRounds workers old new
   pub few : AreFew new.replies
   pub most : new.replies.events ≤ old.replies.events + 450
 
--- ---- A replay, from its start to what it came to
+-- ---- A replay, from its start to its counts
 
--- The course of a seed at its start.
+-- The replay of a seed at its start.
 pub record IsBegun (plan : Planned) (seed workers : ℕ) (course : Course) : Type 0 where
   pub opened : IsOpenedWorld plan workers 4 Hold course.world
   pub world : IsWorld course.world
   pub draw : course.draw ≡ draw_start seed
   pub none : course.replies ≡ no_replies
 
--- The rows from a position on were put by a run that ended so.
+-- The rows from a position on were written by a run that ended in this way.
 pub record PutsRows (plan : Planned) (from : Position) (run : RunState) (outcome : Ending) (old new : Option (List ℕ)) : Type 0 where
   pub tally : Tally
   pub reports : ReportsRest plan from old new (report_of run outcome tally)
@@ -158,7 +157,7 @@ pub record PutsRows (plan : Planned) (from : Position) (run : RunState) (outcome
 abbrev pub AreSettled : Course → Type 0
 AreSettled course = course.replies.tickets ≡ course.replies.posted + course.replies.back + tickets_in course.world.hands
 
--- What a replay came to.
+-- The counts of a replay that has ended.
 abbrev pub counts_of : Course → Ending → Counts
 counts_of course outcome = record {
   outcome = outcome;
@@ -174,7 +173,7 @@ counts_of course outcome = record {
   appended = course.replies.appended;
 }
 
--- The same of one that ended, or was given up.
+-- The same of a replay that has ended, or was given up.
 abbrev pub counts_or_fault : Course → Result Ending CrewFault → Result Counts CrewFault
 counts_or_fault course (Ok outcome) = Ok (counts_of course outcome)
 counts_or_fault course (Err fault) = Err fault

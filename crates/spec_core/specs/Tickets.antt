@@ -1,4 +1,4 @@
--- Tickets of a world: those that are outstanding are just those in the hands, and none is after a drain.
+-- Tickets of a world: the outstanding ones are exactly those in the hands, and none is outstanding after a drain.
 use Rattle.std.specs.Prelude.{◌≡◌, ℕ, suc, ◌+◌, true, List, [], ◌∷◌, ◌++◌, length, map, replicate, None, Some, slice_get}
 use Rattle.std.specs.List.{AllByRecursion, AllZip, sum_by}
 use Rattle.guess_board.specs.Events.{is_of}
@@ -12,11 +12,11 @@ use Rattle.spec_core.specs.declared.event.Reply.TheVariants as reply
 
 -- ---- Tickets in hands
 
--- What the journal of a lane adds up to.
+-- What follows from the journal of a lane.
 abbrev pub tally_of : LaneState → Tally
 tally_of lane = replay_of lane.journal.records
 
--- A ticket is outstanding in the lane of its instance, so that no post of it is refused there, and no back.
+-- A ticket is outstanding in the lane of its instance. So no post of it is refused there, and no back.
 pub record IsOut (lanes : List LaneState) (ticket : TicketState) : Type 0 where
   pub lane : LaneState
   pub is_lane : slice_get lanes ticket.instance ≡ Some lane
@@ -32,13 +32,13 @@ TicketsAreOut =
 abbrev pub tickets_of_instance : ℕ → List (List TicketState) → ℕ
 tickets_of_instance instance hands = counted_in_hands instance (λ number. 1) hands
 
--- Each ticket that a lane gave was posted, was given back, or is in a hand.
+-- Each ticket that a lane made was posted, was given back, or is in a hand.
 abbrev pub TicketsAddUp : Type 0
 TicketsAddUp =
     (world : WorldState) (instance : ℕ) (lane : LaneState) → IsWorld world → slice_get world.lanes instance ≡ Some lane
     → (tally_of lane).tickets ≡ (tally_of lane).posted + (tally_of lane).back + tickets_of_instance instance world.hands
 
--- So do all tickets of all lanes.
+-- The same of all tickets of all lanes.
 abbrev pub AllTicketsAddUp : Type 0
 AllTicketsAddUp =
     (world : WorldState) → IsWorld world
@@ -47,14 +47,14 @@ AllTicketsAddUp =
 
 -- ---- Drained worlds
 
--- No ticket of a lane is outstanding or current any more: all were posted or given back. All else is as it was, its answers too.
+-- No ticket of a lane is outstanding or current any more: all were posted or given back. All else, including answers, is as before.
 pub record IsDrainedLane (old new : LaneState) : Type 0 where
   pub is : new ≡ record old { journal = new.journal }
   pub none_out : new.journal.outstanding ≡ []
   pub none_current : new.journal.current ≡ None
   pub ended : (tally_of new).tickets ≡ (tally_of new).posted + (tally_of new).back
 
--- The tickets of hands are given back hand by hand, of the worker of a number first.
+-- The tickets of hands are given back hand by hand, beginning with the worker of this number.
 abbrev pub backs_from : ℕ → List (List TicketState) → List Event
 backs_from worker [] = []
 backs_from worker (hand ∷ hands) = replicate (length hand) (event.Back worker) ++ backs_from (suc worker) hands

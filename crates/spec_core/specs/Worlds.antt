@@ -11,8 +11,8 @@ use Rattle.unit_exec.specs.Images.{Compiled, IsImageOf}
 use Rattle.unit_tree.specs.Compositions.{Composition}
 use Rattle.unit_tree.specs.Successor.{first_position}
 
--- What contracts see of a world: the run, for how many rows lines are guessed and how, a lane for each instance, and a hand for each
--- worker with its tickets, of which the first one goes first.
+-- What contracts see of a world: the run, for how many rows lines are guessed and how, a lane for each instance, and a hand for
+-- each worker. The first ticket of a hand is the next one.
 pub record WorldState : Type 0 where
   pub run : RunState
   pub window : ℕ
@@ -22,14 +22,14 @@ pub record WorldState : Type 0 where
 
 -- ---- Tickets in hands
 
--- What a ticket of an instance counts by its number. Those of others count nothing.
+-- The value of a ticket of this instance, by its number; 0 for a ticket of another instance.
 abbrev pub counted : ℕ → (ℕ → ℕ) → TicketState → ℕ
 counted instance count ticket = if ticket.instance == instance then count ticket.number else 0
 
 abbrev pub counted_in_hands : ℕ → (ℕ → ℕ) → List (List TicketState) → ℕ
 counted_in_hands instance count hands = sum_by (λ hand. sum_by (counted instance count) hand) hands
 
--- In the hands are just the outstanding tickets of an instance: whatever is counted by numbers comes to the same of both.
+-- The hands have exactly the outstanding tickets of an instance: any sum over their numbers is the same for both.
 abbrev pub AreInHands : ℕ → List ℕ → List (List TicketState) → Type 0
 AreInHands instance outstanding hands = (count : ℕ → ℕ) → sum_by count outstanding ≡ counted_in_hands instance count hands
 
@@ -37,7 +37,7 @@ AreInHands instance outstanding hands = (count : ℕ → ℕ) → sum_by count o
 abbrev pub tickets_in : List (List TicketState) → ℕ
 tickets_in hands = sum_by (λ hand. length hand) hands
 
--- ---- What every world keeps
+-- ---- The invariant of a world
 
 -- The lane of an instance: it has the image of the instance's component, and its outstanding tickets are those in the hands.
 pub record IsLaneOf (run : Composition) (hands : List (List TicketState)) (instance : ℕ) (lane : LaneState) : Type 0 where
@@ -49,7 +49,7 @@ pub record IsLaneOf (run : Composition) (hands : List (List TicketState)) (insta
 abbrev pub images_of : List LaneState → List Compiled
 images_of lanes = map (λ lane. lane.image) lanes
 
--- A ticket is of an instance that is there, and fits its image.
+-- A ticket is of an existing instance, and fits its image.
 pub record FitsInstance (images : List Compiled) (ticket : TicketState) : Type 0 where
   pub image : Compiled
   pub is_image : slice_get images ticket.instance ≡ Some image
@@ -65,7 +65,7 @@ pub record IsWorld (world : WorldState) : Type 0 where
 
 -- ---- The opened world
 
--- A lane for each instance, as it is opened with its image.
+-- A lane for each instance, opened with its image.
 pub record AreLanesOpened (run : Composition) (lanes : List LaneState) : Type 0 where
   pub each_instance : length lanes ≡ length run.members
   pub each : (instance : ℕ) (lane : LaneState) → slice_get lanes instance ≡ Some lane → lane ≡ opened lane.image instance

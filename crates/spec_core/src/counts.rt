@@ -1,12 +1,12 @@
 use unit_tree::{Ending, Point};
 
-/// What a replay came to: how and where its trace ended, and how many events of each kind there were.
+/// The result of a replay: how and where its trace ended, and how many events of each kind there were.
 #[derive(Clone, Copy, Debug, PartialEq, Eq)]
 pub struct Counts {
     pub outcome: Ending,
     /// The last point of the trace, its time in ticks.
     pub last: Point,
-    /// All events, refused ones too.
+    /// All events, including the refused ones.
     pub events: u64,
     /// How many were refused.
     pub refused: u64,

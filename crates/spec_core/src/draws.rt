@@ -1,11 +1,11 @@
-//! What the workers of a replay do.
+//! The events of workers in a replay.
 ghost use Rattle.std.specs.Prelude.{◌≡◌, ◌≤◌};
 ghost use Rattle.spec_core.specs.Replays.{worker_event};
 
 use crate::event::Event;
 pub use draw_numbers::{draw_start, next_draw};
 
-/// The event that a draw chooses, of so many workers and instances.
+/// Returns the event that a draw chooses, for so many workers and instances.
 pub fn worker_event(x: u64, workers: u32, instances: u32) -> Event
     requires workers { 1 ≤ workers }
     requires instances { 1 ≤ instances }

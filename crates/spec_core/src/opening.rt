@@ -11,7 +11,7 @@ use std::sync::Arc;
 use trace_core::Plan;
 use unit_exec::Unit;
 
-/// A lane for each instance.
+/// Returns a lane for each instance.
 pub(crate) fn lanes_of(alloc: Global, plan: &Plan) -> Result<Vec<Lane>, NoMemory>
     ensures opened { IfOk result (λ lanes. AreLanesOpened plan.now.run lanes.items) }
     ensures kept { IfOk result (λ lanes. AreLanes lanes.items) }
@@ -26,7 +26,7 @@ pub(crate) fn lanes_of(alloc: Global, plan: &Plan) -> Result<Vec<Lane>, NoMemory
     Ok(lanes)
 }
 
-/// A unit for each lane, with its image.
+/// Returns a unit for each lane, with its image.
 pub(crate) fn units_of(alloc: Global, lanes: &[Lane]) -> Result<Vec<Unit>, NoMemory>
     ensures { IfOk result (λ units. AllZip IsUnitOf lanes.now units.items) }
 {
@@ -38,7 +38,7 @@ pub(crate) fn units_of(alloc: Global, lanes: &[Lane]) -> Result<Vec<Unit>, NoMem
     Ok(units)
 }
 
-/// An empty hand for each worker.
+/// Returns an empty hand for each worker.
 pub(crate) fn hands_of(alloc: Global, workers: u32) -> Result<Vec<Vec<Ticket>>, NoMemory>
     ensures { IfOk result (λ hands. map (λ hand. hand.items) hands.items ≡ replicate workers []) }
 {

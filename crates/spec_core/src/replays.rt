@@ -1,4 +1,4 @@
-//! Replays: a run by rounds of events, of which those of the workers are drawn by a seed.
+//! Replays: a run by rounds of events, in which a seed draws the events of the workers.
 ghost use Rattle.std.specs.Prelude.{◌≡◌, ◌≤◌, IfOk, OnOk, OnErr};
 ghost use Rattle.spec_core.specs.Replays.{IsReplayed, PutsTrace};
 ghost use Rattle.spec_core.specs.Rounds.{AreFew, AreSettled, GoesRounds, IsBegun, PutsRows, counts_of, counts_or_fault};
@@ -26,7 +26,7 @@ use unit_tree::Ending;
 /// For how many rows lines are guessed in a replay.
 const WINDOW: u32 = 4;
 
-/// Puts the row where the run stands and each one to the end, and tells how the run ended.
+/// Writes the row at the run's stand and each later one to the end. Returns how the run ended.
 fn put_rows<O: Sink>(
     alloc: Global,
     plan: &Plan,
@@ -59,7 +59,7 @@ fn put_rows<O: Sink>(
     Ok(outcome)
 }
 
-/// Puts the header and each row of a course at its start, and tells how the run ended.
+/// Writes the header and each row of a replay at its start. Returns how the run ended.
 fn put_trace<O: Sink>(
     alloc: Global,
     plan: &Plan,
@@ -82,7 +82,7 @@ fn put_trace<O: Sink>(
     put_rows(alloc, plan, workers, course, out)
 }
 
-/// The course of a seed at its start.
+/// Returns the replay of a seed at its start.
 fn begin(alloc: Global, plan: Arc<Plan>, seed: u64, workers: u32) -> Result<Course, NoMemory>
     requires workers { workers ≤ 16 }
     ensures { IfOk result (IsBegun plan.value seed workers) }
@@ -95,7 +95,7 @@ fn begin(alloc: Global, plan: Arc<Plan>, seed: u64, workers: u32) -> Result<Cour
     })
 }
 
-/// What a replay came to that ended so where its course stands.
+/// Returns the counts of a replay that has ended.
 fn counts_of(course: &Course, outcome: Ending) -> Counts
     requires settled { AreSettled course.now }
     ensures { result ≡ counts_of course.now outcome }
@@ -117,7 +117,7 @@ fn counts_of(course: &Course, outcome: Ending) -> Counts
     }
 }
 
-/// The counts of a replay that ended, or the fault by which it was given up.
+/// Returns the counts of a replay that has ended, or the fault by which it was given up.
 fn counts_or_fault(
     course: &Course,
     ended: Result<Ending, ReplayFault>,
@@ -131,13 +131,13 @@ fn counts_or_fault(
     }
 }
 
-/// Runs a plan by the events of a seed, with so many workers: puts the header and each row of its trace as one piece, and counts
-/// what was done.
+/// Runs a plan by the events of a seed, with this number of workers. Writes the header and each row of its trace as one piece, and
+/// counts the events.
 ///
 /// # Errors
 ///
-/// [`ReplayFault::WriteFault`] where a put failed, and only there; then, or where there is no memory, what was put begins the text
-/// of the trace.
+/// [`ReplayFault::WriteFault`] exactly where a write failed. After a failure the written bytes are a prefix of the text of the
+/// trace.
 pub fn replay<O: Sink>(
     alloc: Global,
     plan: Arc<Plan>,

@@ -1,4 +1,4 @@
-//! What the events of a replay came to, counted.
+//! The replies to the events of a replay, counted.
 ghost use Rattle.std.specs.Prelude.{◌≡◌, ◌<◌, ◌^◌};
 ghost use Rattle.spec_core.specs.Rounds.{AreFew, no_replies, with_reply};
 
@@ -18,7 +18,7 @@ pub(crate) struct Replies {
 }
 
 impl Replies {
-    /// Those of no event.
+    /// Returns the counts of no event.
     pub(crate) fn none() -> Replies
         ensures none { result ≡ no_replies }
         ensures few { AreFew result }
@@ -35,7 +35,7 @@ impl Replies {
         }
     }
 
-    /// Counts the reply to one event more.
+    /// Counts the reply to one more event.
     pub(crate) fn count(&mut self, reply: Reply)
         requires few { AreFew self.old }
         requires room { self.old.events < 2 ^ 30 }
@@ -53,7 +53,7 @@ impl Replies {
                 self.appended += u64::from(appended);
             }
             Reply::Back => self.back += 1,
-            // These are counted as events alone.
+            // These count only as events.
             Reply::Published { .. } | Reply::Stolen | Reply::Missed | Reply::Settled(_) => {}
         }
     }

@@ -1,4 +1,4 @@
-//! The rounds of a replay, and how its run gets by them from one row to the next.
+//! The rounds of a replay, and how they lead its run from one row to the next.
 ghost use Rattle.std.specs.Prelude.{◌≡◌, ◌≤◌, ◌<◌, ◌+◌, ◌*◌, ◌^◌, length, false, IfOk, OnOk};
 ghost use Rattle.spec_core.specs.Events.{Happens};
 ghost use Rattle.spec_core.specs.Rounds.{Advances, AreFew, AreServedAll, DoesAll, MakesRound, Serves, draw_after, drawn_from, publishes, with_reply};
@@ -15,16 +15,16 @@ use fixed_words::NoMemory;
 use std::alloc::Global;
 use trace_core::{Phase, Settle};
 
-/// How far a replay has come.
+/// A replay on its way.
 #[derive(Drop)]
 pub(crate) struct Course {
     pub(crate) world: World,
-    /// The draw of the last event of a worker, or what stands before the first one.
+    /// The draw of the last event of a worker, or the number before the first draw.
     pub(crate) draw: u64,
     pub(crate) replies: Replies,
 }
 
-/// Does an event, and counts its reply.
+/// Applies an event, and counts its reply.
 fn happen(
     alloc: Global,
     world: &mut World,
@@ -59,7 +59,7 @@ fn publish_all(
     Ok(())
 }
 
-/// Has the workers do what is drawn, two events for each of them.
+/// Applies the drawn events of the workers, two for each of them.
 fn let_workers_act(
     alloc: Global,
     workers: u32,
@@ -83,7 +83,7 @@ fn let_workers_act(
     Ok(())
 }
 
-/// Looks for the step of an instance where it is wanted, and makes it where nothing is found.
+/// Looks for the step of an instance where it is required, and makes it where nothing is found.
 fn serve(
     alloc: Global,
     instance: u32,
@@ -120,7 +120,7 @@ fn serve_all(
     Ok(())
 }
 
-/// Settles a run of which all steps are there.
+/// Settles a run whose steps are all made.
 fn settle(alloc: Global, world: &mut World, replies: &mut Replies) -> Result<Settle, NoMemory>
     requires going { is_ended world.old.run.phase ≡ false }
     requires full { AreCellsFull world.old.run.cells }
@@ -136,10 +136,10 @@ fn settle(alloc: Global, world: &mut World, replies: &mut Replies) -> Result<Set
     }
 }
 
-/// Makes a round, and tells what settling came to.
+/// Makes a round. Returns the result of settling.
 ///
-/// A round has at most 225 events: 64 instances are published, 16 workers do two each, two serve each instance, and one settles. A
-/// row takes two rounds at most, so a whole run has fewer than 2^30 events.
+/// A round has at most 225 events: 64 instances are published, 16 workers do two each, two events serve each instance, and one
+/// settles. A row takes at most two rounds, so a whole run has fewer than 2^30 events.
 fn make_round(
     alloc: Global,
     workers: u32,
@@ -161,7 +161,7 @@ fn make_round(
     settle(alloc, world, replies)
 }
 
-/// Goes on from a row by a round, and by a second one where the step is made anew. The answer tells whether there is a next row.
+/// Goes on from a row by a round, and by a second one where a redo is due. Returns whether there is a next row.
 pub(crate) fn advance(
     alloc: Global,
     workers: u32,

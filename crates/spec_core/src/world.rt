@@ -27,7 +27,7 @@ pub struct World {
     window: u32,
     policy: Policy,
     lanes: Vec<Lane>,
-    /// By which the answers to tickets are made, one for each lane.
+    /// The units that make the answers to tickets, one for each lane.
     units: Vec<Unit>,
     hands: Vec<Vec<Ticket>>,
 }
@@ -49,14 +49,14 @@ impl Model for World {
     ghost invariant = { IsKept };
 }
 
-/// Whether a run has ended.
+/// Returns whether a run has ended.
 fn has_ended(run: &Run) -> bool
     ensures { result ≡ is_ended run.now.phase }
 {
     matches!(run.phase(), Phase::Ended(_))
 }
 
-/// Whether all steps of the phase are there.
+/// Returns whether all steps of the phase are made.
 fn are_steps_there(run: &Run, instances: u32) -> bool
     requires { length run.now.cells ≤ instances }
     ensures { IsTrue result ↔ AreCellsFull run.now.cells }
@@ -69,7 +69,7 @@ fn are_steps_there(run: &Run, instances: u32) -> bool
     true
 }
 
-/// Puts a ticket last in a hand that has room for it.
+/// Appends a ticket to a hand that has space for it.
 fn put_last(hand: &mut Vec<Ticket>, ticket: Ticket)
     requires { vec_len hand.old < vec_capacity hand.old }
     ensures { hand.new.items ≡ hand.old.items ++ ticket ∷ [] }
@@ -77,7 +77,7 @@ fn put_last(hand: &mut Vec<Ticket>, ticket: Ticket)
     let _ = hand.push(ticket);
 }
 
-/// Takes a ticket of a lane into a hand, and tells whether there was one.
+/// Takes a ticket of a lane into a hand. Returns whether there was one.
 fn take_into(alloc: Global, lane: &mut Lane, hand: &mut Vec<Ticket>) -> Result<bool, NoMemory>
     ensures taken { IfOk result (TakesInto lane.old hand.old.items lane.new hand.new.items) }
     ensures kept_lane { OnErr result (lane.new ≡ lane.old) }
@@ -91,7 +91,7 @@ fn take_into(alloc: Global, lane: &mut Lane, hand: &mut Vec<Ticket>) -> Result<b
     Ok(true)
 }
 
-/// The reply to a take, by whether there was a ticket.
+/// Returns the reply to a take, by whether there was a ticket.
 fn taken_or_refused(taken: Result<bool, NoMemory>) -> Result<Reply, NoMemory>
     ensures { result ≡ reply_of_take taken }
 {
@@ -102,7 +102,7 @@ fn taken_or_refused(taken: Result<bool, NoMemory>) -> Result<Reply, NoMemory>
     }
 }
 
-/// The reply to a publish: a lane that is full is refused.
+/// Returns the reply to a publish, which is refused where the lane is full.
 fn published_or_refused(kept: Result<u32, LaneFault>) -> Result<Reply, NoMemory>
     ensures { IsReplyToPublish kept result }
 {
@@ -127,7 +127,7 @@ fn move_first(hands: &mut Vec<Vec<Ticket>>, to: usize, from: usize) -> Result<()
     Ok(())
 }
 
-/// Posts the answers to the first ticket of a hand, of at most so many cells, made by a unit.
+/// Posts the answers to the first ticket of a hand, made by a unit. `cells` is the greatest number of cells to answer.
 fn post_from(
     alloc: Global,
     cells: u32,
@@ -150,7 +150,7 @@ fn post_from(
     }
 }
 
-/// The reply to a post.
+/// Returns the reply to a post.
 fn posted(appended: Result<u32, NoMemory>) -> Result<Reply, NoMemory>
     ensures { result ≡ reply_of_post appended }
 {
@@ -161,9 +161,9 @@ fn posted(appended: Result<u32, NoMemory>) -> Result<Reply, NoMemory>
 }
 
 impl World {
-    /// The world of a plan at its start, with so many workers: the run is opened, the lanes of all instances too, and all hands are
-    /// empty. Lines are guessed by the policy for as many rows as are asked for, or fewer where the answers of a long run of many
-    /// instances would have no room.
+    /// Opens the world of a plan at its start, with so many workers: the run and the lanes of all instances are opened, and all
+    /// hands are empty. Lines are guessed by the policy for `window` rows. They are shorter where there would be no memory for the
+    /// answers of a long run of many instances.
     ///
     /// # Errors
     ///
@@ -196,7 +196,7 @@ impl World {
         })
     }
 
-    /// Whether a worker is there and has a ticket.
+    /// Returns whether there is such a worker and it has a ticket.
     fn has_ticket(&self, worker: usize) -> bool
         ensures there { result ≡ true → HasTicket self.now worker }
         ensures not_there { result ≡ false → HasNoTicket self.now worker }
@@ -207,14 +207,14 @@ impl World {
         }
     }
 
-    /// The run.
+    /// Returns the run.
     pub fn run(&self) -> &Run
         ensures { result.now ≡ self.now.run }
     {
         &self.run
     }
 
-    /// The lane of an instance.
+    /// Returns the lane of an instance.
     pub fn lane(&self, instance: u32) -> &Lane
         requires { instance < length self.now.lanes }
         ensures { slice_get self.now.lanes instance ≡ Some result.now }
@@ -222,14 +222,14 @@ impl World {
         &self.lanes[instance as usize]
     }
 
-    /// What every world keeps.
+    /// States the invariant of every world.
     pub fn facts(&self)
         ensures { IsWorld self.now }
     {
         let _ = &self.window;
     }
 
-    /// Publishes the lane of an instance with what is guessed where the run stands.
+    /// Publishes the lane of an instance with the guesses at the run's stand.
     fn publish(&mut self, alloc: Global, instance: u32) -> Result<Reply, NoMemory>
         ensures happens { IfOk result (λ reply. Happens self.old (event.Publish instance) reply self.new) }
         ensures kept { OnErr result (self.new ≡ self.old) }
@@ -249,7 +249,7 @@ impl World {
         published_or_refused(kept)
     }
 
-    /// Has a worker take a ticket of an instance.
+    /// A worker takes a ticket of an instance.
     fn take(&mut self, alloc: Global, worker: u32, instance: u32) -> Result<Reply, NoMemory>
         ensures happens { IfOk result (λ reply. Happens self.old (event.Take worker instance) reply self.new) }
         ensures kept { OnErr result (self.new ≡ self.old) }
@@ -266,7 +266,7 @@ impl World {
         taken_or_refused(taken)
     }
 
-    /// Has a worker steal the first ticket of another one.
+    /// A worker steals the first ticket of another one.
     fn steal(&mut self, worker: u32, from: u32) -> Result<Reply, NoMemory>
         ensures happens { IfOk result (λ reply. Happens self.old (event.Steal worker from) reply self.new) }
         ensures kept { OnErr result (self.new ≡ self.old) }
@@ -285,7 +285,7 @@ impl World {
         Ok(Reply::Stolen)
     }
 
-    /// Has a worker post the answers to the first of its tickets, of at most so many cells.
+    /// A worker posts the answers to the first of its tickets, of at most so many cells.
     fn post(&mut self, alloc: Global, worker: u32, cells: u32) -> Result<Reply, NoMemory>
         ensures happens { IfOk result (λ reply. Happens self.old (event.Post worker cells) reply self.new) }
         ensures kept { OnErr result (self.new ≡ self.old) }
@@ -301,7 +301,7 @@ impl World {
         posted(appended)
     }
 
-    /// Has a worker give the first of its tickets back.
+    /// A worker gives back the first of its tickets.
     fn give_back(&mut self, worker: usize) -> Reply
         ensures { Happens self.old (event.Back worker) result self.new }
     {
@@ -319,7 +319,7 @@ impl World {
         }
     }
 
-    /// Has the run look for the step that is wanted of an instance.
+    /// The run looks for the required step of an instance.
     fn find(&mut self, instance: u32) -> Reply
         ensures { Happens self.old (event.Find instance) result self.new }
     {
@@ -332,12 +332,12 @@ impl World {
         if !self.run.accept(instance, one) {
             unreachable!()
         }
-        // What every run keeps is known by the clauses of this call alone.
+        // Called for its clauses, which state the invariant of a run.
         let _ = self.run.phase();
         Reply::Found
     }
 
-    /// Has the run make the step that is wanted of an instance.
+    /// The run makes the required step of an instance.
     fn compute(&mut self, instance: u32) -> Reply
         ensures { Happens self.old (event.Compute instance) result self.new }
     {
@@ -345,12 +345,12 @@ impl World {
             return Reply::Refused;
         }
         self.run.compute(instance);
-        // What every run keeps is known by the clauses of this call alone.
+        // Called for its clauses, which state the invariant of a run.
         let _ = self.run.phase();
         Reply::Computed
     }
 
-    /// Has the run settle.
+    /// The run settles.
     fn settle(&mut self) -> Reply
         ensures { Happens self.old event.Settle result self.new }
     {
@@ -363,7 +363,7 @@ impl World {
         Reply::Settled(self.run.settle())
     }
 
-    /// Does what an event says, and tells what came of it. A refused event changes nothing.
+    /// Applies an event, and returns its reply. A refused event changes nothing.
     ///
     /// # Errors
     ///
@@ -384,7 +384,7 @@ impl World {
         }
     }
 
-    /// Has a worker give all its tickets back, and tells how many these were.
+    /// A worker gives back all its tickets. Returns how many these were.
     fn drain_hand(&mut self, worker: usize) -> u64
         requires { worker < length self.old.hands }
         ensures { IsHandDrained self.old worker self.new result }
@@ -396,8 +396,8 @@ impl World {
         tickets as u64
     }
 
-    /// Has all workers give all their tickets back, hand by hand from the first, and tells how many these were. The run and all
-    /// answers stay.
+    /// All workers give back all their tickets, hand by hand from the first. Returns how many these were. The run and all answers
+    /// stay.
     pub fn drain(&mut self) -> u64
         ensures { IsDrained self.old self.new result }
     {

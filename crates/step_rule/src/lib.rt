@@ -1,11 +1,12 @@
-//! The rules of a step: what is proposed, what a component's acceptance means, what is agreed on, and where the run is
-//! then (Broman et al., "Determinate Composition of FMUs for Co-Simulation", EMSOFT 2013). None of it takes memory.
+//! The rules of a step: the proposed step, a component's reply, the agreed step, and the point after the step
+//! (Broman et al., "Determinate Composition of FMUs for Co-Simulation", EMSOFT 2013). None of them takes memory.
 //!
-//! All lengths are in ticks of the system, but for accepted lengths, which are in local ticks of the component. The layer
-//! above uses [`propose`], [`reply`], [`agree`] and [`after`]; two nodes, which know a part of a row, also [`capped`] and [`is_held`].
+//! Lengths are in ticks of the system, except accepted lengths, which are in local ticks of the component. The layer above
+//! uses [`propose`], [`reply`], [`agree`] and [`after`]. Two nodes, each of which knows a part of a row, also use [`capped`]
+//! and [`is_held`].
 //!
-//! Definitions: those of `unit_tree/specs/Negotiation.antt` (proposal, reply, agreed step) and of
-//! `unit_tree/specs/Successor.antt` (the point after a step); `specs/AfterStep.antt` has what follows a step.
+//! Definitions: `unit_tree/specs/Negotiation.antt` defines the proposal, the reply and the agreed step.
+//! `unit_tree/specs/Successor.antt` defines the point after a step, and `specs/AfterStep.antt` what follows a step.
 #![tactic(auto)]
 
 mod rules;

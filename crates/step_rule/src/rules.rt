@@ -5,15 +5,15 @@ ghost use Rattle.unit_tree.specs.Negotiation.{agreed_step, is_held, proposal_of,
 
 use super_time::{Point, limit, local_step};
 
-/// Where a run goes on after a step.
+/// Where a run goes after a step.
 #[derive(Clone, Copy, Debug, PartialEq, Eq)]
 pub enum NextPoint {
     Next(Point),
-    /// The step has length zero, and no more of those may follow.
+    /// The step has length zero, and no further zero step is allowed.
     ZeroBudget,
 }
 
-/// The step that is proposed at `t`: the greatest that passes neither the stop, `longest` nor a limit.
+/// Returns the proposed step at `t`: the longest one that passes neither the stop nor a limit and is at most `longest`.
 pub fn propose(stop: u64, longest: u64, t: u64, limits: &[u128]) -> u64
     requires before_stop { t ≤ stop }
     requires stop { stop ≤ 10 ^ 15 }
@@ -26,7 +26,7 @@ pub fn propose(stop: u64, longest: u64, t: u64, limits: &[u128]) -> u64
     least
 }
 
-/// The lesser of two lengths.
+/// Returns the lesser of two lengths.
 pub fn capped(length: u64, limit: u128) -> u64
     ensures { result ≡ min length limit }
 {
@@ -37,7 +37,7 @@ pub fn capped(length: u64, limit: u128) -> u64
     }
 }
 
-/// Whether a component is held in a step of `h` from `t`: the step has a length, and none of the component's own ticks ends in it.
+/// Returns whether a component is held in a step of `h` from `t`: the step has a length, and no local tick ends in it.
 pub fn is_held(factor: u64, t: u64, h: u64) -> bool
     requires factor { 1 ≤ factor }
     requires end { t + h ≤ 10 ^ 15 }
@@ -46,9 +46,10 @@ pub fn is_held(factor: u64, t: u64, h: u64) -> bool
     h > 0 && local_step(factor, t, h) == 0
 }
 
-/// The reply to a step of `h` from `t` of a component that accepted so many local ticks of it, of which one is `factor`
-/// ticks: the whole step where it accepted all of its local step, and else the ticks until those that it accepted have
-/// passed. A held component, whose local step is 0, replies the whole step.
+/// Returns the reply of a component to a step of `h` from `t`, in ticks of the system. `accepted` is how many local ticks
+/// it accepted, and one local tick is `factor` ticks. A component that accepted all of its local step replies the whole step.
+/// Otherwise the reply ends where the accepted local ticks have passed.
+/// A held component, whose local step is 0, replies the whole step.
 pub fn reply(factor: u64, t: u64, h: u64, accepted: u64) -> u64
     requires factor { 1 ≤ factor }
     requires coarsest { factor ≤ 10 ^ 9 }
@@ -63,7 +64,7 @@ pub fn reply(factor: u64, t: u64, h: u64, accepted: u64) -> u64
     limit(factor, t, accepted) as u64
 }
 
-/// The step that is agreed on: the least reply.
+/// Returns the agreed step: the least reply.
 pub fn agree(replies: &[u64]) -> u64
     requires some { 0 < length replies.now }
     ensures { (h : ℕ) → result ≡ agreed_step h replies.now }
@@ -75,7 +76,7 @@ pub fn agree(replies: &[u64]) -> u64
     least
 }
 
-/// The point after a step of `h`; or that this is one step of length zero too many, where `zero` may follow each other.
+/// Returns the point after a step of `h`, or that it is one zero step too many. `zero` is the zero budget.
 pub fn after(point: Point, h: u64, zero: u64) -> NextPoint
     requires end { point.t + h ≤ 10 ^ 15 }
     requires zeros { point.n ≤ zero }

@@ -1,4 +1,4 @@
--- Whether something is so: by tests, by parts, and for each of a list.
+-- Deciding statements: by tests, by parts, and for each element of a list.
 use Rattle.std.proofs.Common.{◌≡◌, ℕ, zero, suc, ◌+◌, ◌<◌, ◌≤◌, Bool, true, false, List, [], ◌∷◌, inl, inr, refl, subst, arith}
 use Rattle.std.specs.Prelude.{◌⊎◌}
 use Rattle.std.specs.List.{AllByRecursion}
@@ -10,7 +10,7 @@ use Rattle.list_laws.proofs.Truths.{true_is_false}
 abbrev pub Decided : Type 0 → Type 0
 Decided P = P ⊎ (P → ⊥)
 
--- Something of this form is there, or nothing is.
+-- Something of this form exists, or nothing does.
 abbrev pub Found : {A : Type 0} → (A → Type 0) → Type 0
 Found {A} Is = ((a : A) × Is a) ⊎ ((a : A) → Is a → ⊥)
 

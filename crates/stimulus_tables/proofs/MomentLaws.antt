@@ -99,7 +99,7 @@ not_next names before fields moment is none other follows =
 
 -- ---- The words of a record, one after the other
 
--- The fields behind the first are the words that were read, and the fields from this place on.
+-- The fields after the first are the words that were read, and then the fields from this place on.
 pub record ReadTo (fields : Fields) (place : ℕ) (words : List ℤ) : Type 0 where
   pub front : drop 1 fields ≡ map signed_decimal words ++ drop place fields
   pub small : AllByRecursion (λ word. unsigned_abs word ≤ 10 ^ 15) words

@@ -22,7 +22,7 @@ use Rattle.unit_tree.specs.Tokens.{IsName, Spells}
 use Rattle.unit_tree.specs.declared.token.Token.{Token}
 use Rattle.unit_tree.specs.declared.token.Token.TheVariants as token
 
--- ---- Names that are taken
+-- ---- Names that are reserved
 
 cut_s : (name digits : List ℕ) → behind_s name ≡ Some digits → name ≡ 115 ∷ digits
 cut_s [] digits is = cc is
@@ -99,7 +99,7 @@ none_among (one ∷ names) name is =
 
 -- ---- The names of a head
 
--- The fields behind the first are the names that were read, which may stand in a head, and the fields from this place on.
+-- The fields after the first are the names that were read, which a head may have, and then the fields from this place on.
 pub record NamesTo (fields : Fields) (place : ℕ) (names : List (List ℕ)) : Type 0 where
   pub first : field_at fields 0 ≡ Some (codes "time")
   pub front : drop 1 fields ≡ names ++ drop place fields

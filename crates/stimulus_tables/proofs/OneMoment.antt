@@ -1,4 +1,4 @@
--- A moment is told by its fields.
+-- The fields of a moment determine it.
 use Rattle.std.proofs.Common.{◌≡◌, ℕ, ◌^◌, ◌≤◌, ℤ, pos, negsuc, unsigned_abs, List, [], ◌∷◌, map, refl, ap₂, arith}
 use Rattle.std.specs.Fmt.{decimal, signed_decimal}
 use Rattle.std.specs.List.{AllByRecursion}

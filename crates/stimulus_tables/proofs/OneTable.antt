@@ -8,9 +8,9 @@ use Rattle.stimulus_tables.specs.declared.moment.Moment.{Moment}
 use Rattle.stimulus_tables.proofs.OneMoment.{same_moment}
 use Rattle.stimulus_tables.proofs.SomeTable.{judged}
 
--- ---- Two ways to read records
+-- ---- Two readings of records
 
--- The first record of some may follow moments.
+-- The first record of some may follow the moments.
 record GoesOn (names : List (List ℕ)) (moments : List Moment) (left : List Fields) : Type 0 where
   fields : Fields
   rest : List Fields
@@ -18,7 +18,7 @@ record GoesOn (names : List (List ℕ)) (moments : List Moment) (left : List Fie
   cut : left ≡ fields ∷ rest
   may : MayFollow names moments fields moment
 
--- They are the same, or one goes on where the other ends.
+-- They are equal, or one goes on where the other ends.
 abbrev Agree : List (List ℕ) → List Moment → List Moment → List Moment → List Fields → List Fields → Type 0
 Agree names before moments more left rest =
     ((more ≡ moments) × (left ≡ rest)) ⊎ (GoesOn names (before ++ moments) left ⊎ GoesOn names (before ++ more) rest)

@@ -33,7 +33,7 @@ by_name : (first : ℕ) (one : List ℕ) (names : List (List ℕ)) (name : List 
 by_name first one names name true later = refl
 by_name first one names name false later = later
 
--- Whatever output is found, it needs nothing.
+-- Any output that is found needs nothing.
 needs_none : (first : ℕ) (names : List (List ℕ)) (name : List ℕ) → needs_of (port_named (map plain_port (outputs_from first names)) name) ≡ []
 needs_none first [] name = refl
 needs_none first (one ∷ names) name = by_name first one names name (bytes_eq one name) (needs_none (first + 1) names name)

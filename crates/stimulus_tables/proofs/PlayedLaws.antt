@@ -366,7 +366,7 @@ module _ (names : List (List ℕ)) (first : Moment) (all : List Moment) (few_nam
   abbrev played_run : Composition
   played_run = played names first all (last_time first all)
 
-  -- From a moment, behind those that passed, the later ones follow.
+  -- From a moment, after those that passed, the later ones follow.
   follows : (k : ℕ) (m : Moment) (passed rest : List Moment) → all ≡ passed ++ rest → k + length rest < 21 → IsMoment names m → AllByRecursion (IsMoment names) rest
       → AreUntil m.time passed → AreRising m rest → last_time m rest ≡ last_time first all
       → Follows played_run (stand_of k m) (others_from (suc k) rest) Completed

@@ -53,7 +53,7 @@ use Rattle.stimulus_tables.specs.declared.moment.Moment.{Moment}
 
 -- ---- Names and numbers
 
--- `s` with digits behind it is no keyword.
+-- `s` and then digits is not a keyword.
 not_reserved : (digits : List ℕ) → list_all is_digit digits ≡ true → keyword_of (115 ∷ digits) ≡ None
 unfolding keyword_of
 not_reserved [] all = refl
@@ -258,7 +258,7 @@ width_append : (behind : Bool) (one other : List Token) → width behind (one ++
 width_append behind [] other = omega (arith, width_most behind other)
 width_append behind (first ∷ one) other = omega (arith, width_append (is_worded first) one other)
 
--- What an expression of whole numbers and the time is, where this many moments are behind the first one.
+-- An expression of whole numbers and the time, where there are so many moments after the first one.
 record Leads (value : Expr) (more : ℕ) : Type 0 where
   nameless : names_in value ≡ []
   ranged : is_ranged value ≡ true

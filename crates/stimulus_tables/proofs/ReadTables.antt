@@ -90,7 +90,7 @@ pub no_moments : (records : List Fields) (names : List (List ℕ)) (moments : Li
 no_moments records names [] none begins = no_moment records names begins
 no_moments records names (moment ∷ moments) none begins = absurd (omega arith)
 
--- What a part hands on, which gave up, is the answer.
+-- The fault of a part that gave up is the result.
 pub handed_on : (records : List Fields) (fault : TableFault) (result : Result System TableFault) → IsErrAnd result (λ given. given ≡ fault) → TellsFault records fault
     → MakesSystem records result
 handed_on records fault (Ok system) is told = absurd is

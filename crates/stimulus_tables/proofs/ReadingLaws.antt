@@ -1,4 +1,4 @@
--- What a reader of a table's records gives, one record after the other.
+-- The records that a reader of a table returns, one after the other.
 use Rattle.std.proofs.Common.{◌≡◌, ℕ, zero, suc, ◌+◌, ◌<◌, ◌≤◌, Bool, true, false, List, [], ◌∷◌, ◌++◌, length, Option, Some, None, Bor, refl, ap, sym, subst, ◌∙◌, arith}
 use Rattle.std.specs.Prelude.{if◌then◌else◌, ◌==◌, ◌||◌}
 use Rattle.list_laws.proofs.Options.{inside}
@@ -15,7 +15,7 @@ use Rattle.stimulus_tables.specs.Records.{Fields}
 
 -- ---- A record ends between two
 
--- What a byte does ends a record only where it leads between two.
+-- A byte ends a record only where it leads to a state between two records.
 abbrev EndsBetween : State × Action → Type 0
 EndsBetween to = is_end to.1 ≡ true → IsBetween to.0
 
@@ -70,9 +70,9 @@ step_between state.AfterCr byte = behind (byte == 10) (byte == 34) (byte == 44) 
     behind true quote comma ends return is = absurd (cc)
     behind false quote comma ends return is = record_between quote comma ends return is
 
--- ---- What is left behind a record
+-- ---- What is left after a record
 
--- A record leads between two, and leaves at most so many bytes.
+-- A record ends between two records, and leaves at most so many bytes.
 record Leaves (most : ℕ) (read : Read) : Type 0 where
   between : IsBetween read.1
   within : length read.2 ≤ most
@@ -101,7 +101,7 @@ leaves at fields field (byte ∷ rest) read is =
     longer : Leaves (length rest) read → Leaves (length (byte ∷ rest)) read
     longer left = record { between = left.between; within = omega (arith, left.within) }
 
--- Between two records each byte that is left counts, and none is left for a record where there are none.
+-- Between two records each byte that is left counts. Where no byte is left, there is no record.
 leaves_less : (at : State) (bytes : List ℕ) (read : Read) → IsBetween at → next_record default_config at [] [] bytes ≡ Some read → suc (length read.2) ≤ length bytes
 unfolding next_record
 leaves_less state.StartRecord [] read between is = absurd (cc is)

@@ -1,4 +1,4 @@
--- A line that passes each rule.
+-- A line that no rule refuses.
 use Rattle.std.proofs.Common.{◌≡◌, false, refl}
 use Rattle.text_laws.proofs.KeptRules.{Keeps}
 use Rattle.unit_tree.specs.Sites.{Site}

@@ -122,7 +122,7 @@ moment_found names before fields = by (less_decided (length before) 20) (written
 abbrev Judged : List Fields → Type 0
 Judged records = ((names : List (List ℕ)) × (first : Moment) × (later : List Moment) × IsTable records names first later) ⊎ ((number : ℕ) × LeavesForm records number)
 
--- with what the next record is, and the records behind it
+-- By the next record, and the records after it.
 next_judged : (records : List Fields) (names : List (List ℕ)) (fields : Fields) (left : List Fields) (moments : List Moment)
     → BeginsTable records names moments (fields ∷ left) → Found (MayFollow names moments fields)
     → ((more : List Moment) → BeginsTable records names more left → Judged records) → Judged records

@@ -1,4 +1,4 @@
--- What the component of a table makes of a step.
+-- The steps of the component of a table.
 use Rattle.std.proofs.Common.{◌≡◌, ℕ, suc, ◌+◌, ◌-◌, ◌^◌, ◌<◌, ◌≤◌, nat_le, nat_lt, Bool, true, false, ℤ, pos, negsuc, List, [], ◌∷◌, ◌++◌, map, length, length-append, unsigned_abs, if◌then◌else◌, None, Ok, Err, refl, sym, ap, ap₂, subst, ◌∙◌, append_assoc, arith}
 use Rattle.std.specs.Prelude.{◌-ℤ◌, neg_ℤ, int_le, int_lt}
 use Rattle.std.specs.List.{AllByRecursion, filter}
@@ -62,7 +62,7 @@ holds_truth : (b : Bool) → holds (truth b) ≡ b
 holds_truth true = refl
 holds_truth false = refl
 
--- The next time behind a time: the first of those that is later, and the last where none is.
+-- The next time after a time: the first one that is later, and the last one where none is.
 abbrev pub next_time : ℕ → List Moment → ℕ → ℕ
 next_time first [] t = first
 next_time first (second ∷ others) t = if nat_lt t first then first else next_time second.time others t
@@ -108,7 +108,7 @@ number_value (negsuc n) env is =
 
 -- ---- States
 
--- The variables of states, of which the first has this number.
+-- The variables of states, the first of which has this number.
 abbrev pub slots : ℕ → List ℤ → List Variable
 slots first [] = []
 slots first (word ∷ words) = variable (state_name first) types.Int64 ∷ slots (first + 1) words

@@ -49,7 +49,7 @@ table_is_stimulus records names first later is =
       few = omega (arith, follow_few names [] is.front (first ∷ later) is.follow (omega arith));
     }
 
--- A table is left at one of its first records: a 22nd is one too many.
+-- Records leave the form of a table at one of the first: a 22nd record is one too many.
 pub leaves_early : (records : List Fields) (number : ℕ) → LeavesForm records number → number ≤ 22
 leaves_early records number (inl lacks) = omega (arith, lacks.1)
 leaves_early records number (inr leaves) =

@@ -1,4 +1,4 @@
--- Each line of a table's unit passes each rule.
+-- No rule refuses a line of a table's unit.
 use Rattle.std.proofs.Common.{◌≡◌, ℕ, ◌+◌, ◌<◌, ◌≤◌, Bool, true, false, cond, ℤ, unsigned_abs, List, [], ◌∷◌, ◌++◌, map, length, Some, Ok, Err, refl, ap, ap₂, arith, ◌^◌, ◌∙◌}
 use Rattle.std.specs.Prelude.{◌&&◌, ◌||◌, not, nat_lt, is_none}
 use Rattle.std.specs.List.{AllByRecursion, count_by, filter_map, flat_map, list_any}
@@ -212,7 +212,7 @@ module _ (names : List (List ℕ)) (first : Moment) (later : List Moment) (is : 
 
   -- ---- Lines of the step
 
-  -- A line passes behind fewer than 500 others, and is one line of the plain form.
+  -- A line is accepted after fewer than 500 others, and is one line of the plain form.
   pub record StepPasses (line : LineForm) : Type 0 where
     pub passes : (earlier : List LineForm) → length (plain in_step earlier) < 500
         → Passes system (record { scope = in_step; earlier = earlier; line = line })

@@ -14,7 +14,7 @@ use Rattle.stimulus_tables.proofs.Deciding.{Decided, Found, at_most_decided, bot
 
 -- ---- Times
 
--- The bytes are the text of a time, of an entry, and the fields are those of entries.
+-- The bytes are the text of a time; of an entry; the fields are those of entries.
 abbrev pub IsTime : List ℕ → ℕ → Type 0
 IsTime bytes time = (time ≤ 10 ^ 9) × (bytes ≡ decimal time)
 

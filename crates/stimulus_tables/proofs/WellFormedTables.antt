@@ -44,7 +44,7 @@ use Rattle.stimulus_tables.proofs.TableNames.{column_free}
 neither : (one other : Bool) → one ≡ false → other ≡ false → (one || (other || false)) ≡ false
 neither one other no_one no_other = rw (no_one, no_other) refl
 
--- A name that is not declared so far is not with one line more that declares another.
+-- A name that is not declared so far is still not declared after one more line that declares another name.
 still_new : (earlier : List LineForm) (line : LineForm) (added name : List ℕ) → filter_map name_declared (line ∷ []) ≡ added ∷ []
     → is_among (filter_map name_declared earlier) name ≡ false → bytes_eq name added ≡ false
     → is_among (filter_map name_declared (earlier ++ (line ∷ []))) name ≡ false
@@ -209,7 +209,7 @@ module _ (names : List (List ℕ)) (first : Moment) (later : List Moment) (is : 
             (omega (arith, sized, one_more names first later is own_scope earlier line)),
       )
 
-  -- Before the state of a place stand the states before it.
+  -- The states before a place come before the state of the place.
   record BeforeState (place : ℕ) (earlier : List LineForm) : Type 0 where
     states : (at : ℕ) → place ≤ at → at < 64 → is_among (filter_map name_declared earlier) (state_name at) ≡ false
     columns : AreNew earlier names

@@ -1,4 +1,4 @@
--- Words, times and entries by their texts.
+-- The texts of words, times and entries.
 use Rattle.std.proofs.Common.{◌≡◌, ℕ, ◌^◌, ◌≤◌, Bool, true, false, ℤ, pos, negsuc, List, Option, Some, None, Result, Ok, Err}
 use Rattle.std.proofs.Common.{sym, ap, subst, ◌∙◌, arith, Bor, SFits, w64}
 use Rattle.std.specs.Prelude.{MatchResult, unsigned_abs, neg_ℤ, int_le}
@@ -21,7 +21,7 @@ use Rattle.stimulus_tables.specs.TableFields.{IsEntryText, IsTimeText, IsWordTex
 abbrev Parses : List ℕ → Option ℤ → Type 0
 Parses bytes parsed = (word : ℤ) → is_word_of Int64 word ≡ true → bytes ≡ signed_decimal word → parsed ≡ Some word
 
--- Bytes that are parsed as nothing, as the word of another text, and as the word.
+-- Bytes that are parsed as no word, as a word with another text, and as a word with this text.
 pub word_unread : (bytes : List ℕ) (parsed told : Option ℤ) → Parses bytes parsed → parsed ≡ None → told ≡ None → Tells told (IsWordText bytes)
 word_unread bytes parsed told parses none is =
     subst (λ one. Tells one (IsWordText bytes)) (sym is) (λ word text. none-some word (sym none ∙ parses word text.0 text.1))

@@ -37,7 +37,7 @@ TablesArePrintable = (names : List (List ℕ)) (first : Moment) (later : List Mo
 abbrev pub TablesHaveNoCycle : Type 0
 TablesHaveNoCycle = (names : List (List ℕ)) (first : Moment) (later : List Moment) → IsStimulus names first later → HasNoCycle (table_system names first later)
 
--- Its trace has a row at each time of the table, with the words that the table holds then, and is completed at the last of them.
+-- Its trace has a row at each time of the table, with the words that the table has for this time. It is completed at the last time.
 abbrev pub TablesArePlayed : Type 0
 TablesArePlayed = (names : List (List ℕ)) (first : Moment) (later : List Moment) → IsStimulus names first later
     → IsTraceOf (table_system names first later) (map (row_at first later) (first ∷ later)) (record { t = last_time first later; n = 0 }) Completed

@@ -14,11 +14,11 @@ IsBetween state.StartRecord = ⊤
 IsBetween state.AfterCr = ⊤
 IsBetween _ = ⊥
 
--- The records that a reader gives from a state and the bytes that it has left.
+-- The records that a reader returns from a state and the bytes that are left.
 abbrev pub records_behind : State → List ℕ → List Fields
 records_behind at bytes = records_from default_config (length bytes + 1) at bytes
 
--- The reader gives these records, and stands between two of them.
+-- The reader returns these records, and is between two of them.
 pub record Gives (reader : Reader (Bor (List ℕ))) (rest : List Fields) : Type 0 where
   pub untrimmed : reader_trim reader ≡ trim.None
   pub ready : Ready reader
@@ -29,7 +29,7 @@ pub record Gives (reader : Reader (Bor (List ℕ))) (rest : List Fields) : Type 
   pub source : source_of (λ (s : Bor (List ℕ)). Some s.now) reader ≡ Some bytes
   pub rest_is : rest ≡ records_behind (reader_state reader) bytes
 
--- A read took the first of the records that were left, or told that there was none.
+-- A read returned the first of the records that were left, or that there was none.
 abbrev pub Took : List Fields → Bool → Fields → Reader (Bor (List ℕ)) → Type 0
 Took rest true fields reader = (others : List Fields) × (rest ≡ fields ∷ others) × Gives reader others
 Took rest false fields reader = rest ≡ []

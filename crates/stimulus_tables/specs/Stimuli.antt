@@ -1,4 +1,4 @@
--- The system that a table becomes.
+-- The system of a table.
 use Rattle.std.specs.Prelude.{◌≡◌, [], ℕ, List, Result, Ok, Err, ⊤}
 use Rattle.std.specs.Borrow.{Bor}
 use Rattle.csv.specs.declared.reader.Reader.{Reader}
@@ -19,19 +19,19 @@ pub record IsSystemOf (records : List Fields) (system : System) : Type 0 where
   pub is_table : IsTable records names first later
   pub is : system ≡ table_system names first later
 
--- A fault names the record at which the records leave the form. Want of memory says nothing.
+-- A fault has the number of the record at which the records leave the form. Lack of memory says nothing of them.
 abbrev pub TellsFault : List Fields → TableFault → Type 0
 TellsFault records (faults.Form number) = LeavesForm records number
 TellsFault records faults.NoMemory = ⊤
 
--- The system of the table that the records are, or where they leave its form.
+-- The result for records: the system of their table, or where they leave the form.
 abbrev pub MakesSystem : List Fields → Result System TableFault → Type 0
 MakesSystem records (Ok system) = IsSystemOf records system
 MakesSystem records (Err fault) = TellsFault records fault
 
--- ---- On the way
+-- ---- Parts of the reading
 
--- The records begin a table, and the reader gives those that are left.
+-- The records begin a table, and the reader returns those that are left.
 pub record BeganTable (records : List Fields) (names : List (List ℕ)) (moments : List Moment) (reader : Reader (Bor (List ℕ))) : Type 0 where
   pub left : List Fields
   pub begins : BeginsTable records names moments left

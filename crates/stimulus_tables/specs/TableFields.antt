@@ -1,4 +1,4 @@
--- What the fields of a table of stimulus say.
+-- The meaning of the fields of a table of stimulus.
 use Rattle.std.specs.Prelude.{◌≡◌, ◌≢◌, ℕ, ◌<◌, ◌≤◌, ◌^◌, ◌==◌, Bool, true, false, if◌then◌else◌, ℤ, unsigned_abs, List, [], ◌∷◌, map, length, decimal, Option, Some, None}
 use Rattle.std.specs.Fmt.{signed_decimal}
 use Rattle.std.specs.List.{AllByRecursion}
@@ -10,16 +10,16 @@ use Rattle.unit_tree.specs.Tokens.{IsName}
 use Rattle.stimulus_tables.specs.declared.moment.Moment.{Moment}
 use Rattle.stimulus_tables.specs.Records.{Fields}
 
--- What is told is so, and nothing is told only where nothing is.
+-- A result has the property; there is none only where nothing has it.
 abbrev pub Tells : {A : Type 0} → Option A → (A → Type 0) → Type 0
 Tells {A} told Is = MatchOption told ((a : A) → Is a → ⊥) Is
 
--- A test tells whether it is so.
+-- A test is true exactly where the statement holds.
 abbrev pub Decides : Bool → Type 0 → Type 0
 Decides true Is = Is
 Decides false Is = Is → ⊥
 
--- The bytes are the text of a word, of a time and of an entry.
+-- The bytes are the text of a word; of a time; of an entry.
 abbrev pub IsWordText : List ℕ → ℤ → Type 0
 IsWordText bytes word = (is_word_of Int64 word ≡ true) × (bytes ≡ signed_decimal word)
 
@@ -39,14 +39,14 @@ pub record IsMomentOf (count : ℕ) (fields : Fields) (moment : Moment) : Type 0
   pub many : length moment.words ≡ count
   pub writable : IsWritable moment
 
--- The name may stand in a head behind these.
+-- A head may have the name after these.
 pub record IsNextName (before : List (List ℕ)) (name : List ℕ) : Type 0 where
   pub few : length before < 16
   pub is_name : IsName name
   pub not_taken : IsTaken name → ⊥
   pub fresh : AllByRecursion (λ other. other ≢ name) before
 
--- What stands behind an `s` that comes first.
+-- The bytes after an `s`, where the first byte is one.
 abbrev pub behind_s : List ℕ → Option (List ℕ)
 behind_s [] = None
 behind_s (first ∷ digits) = if first == 115 then Some digits else None

@@ -19,23 +19,23 @@ use Rattle.unit_tree.specs.declared.unit.Unit.{Unit}
 use Rattle.stimulus_tables.specs.Tables.{state_name}
 use Rattle.stimulus_tables.specs.declared.moment.Moment.{Moment}
 
--- ---- What a table holds
+-- ---- The words of a table at a time
 
 abbrev pub last_of : {A : Type 0} → A → List A → A
 last_of first [] = first
 last_of first (second ∷ others) = last_of second others
 
--- The words at a time: those of the last moment whose time is at most it, and the first ones where there is none.
+-- The words at a time: those of the last moment whose time is at most it, or the first words where there is none.
 abbrev pub held : List ℤ → List Moment → ℕ → List ℤ
 held first moments t = last_of first (map (λ moment. moment.words) (filter (λ moment. nat_le moment.time t) moments))
 
--- The row at a moment's time: its words are those that the table holds.
+-- The row at a moment's time: its words are those of the table at this time.
 abbrev pub row_at : Moment → List Moment → Moment → Row
 row_at first later moment = record { point = record { t = moment.time; n = 0 }; words = held first.words later moment.time }
 
 -- ---- Expressions and lines
 
--- A word. Numbers in expressions are not negative, so `-` stands in front of one that is.
+-- A word. Numbers in expressions are not negative, so a negative word is the operation `-` of a number.
 abbrev pub number : ℤ → Expr
 number word = if is_negative word then expr.Unary of.Neg (expr.Number (pos (unsigned_abs word)) 0) else expr.Number word 0
 
@@ -47,7 +47,7 @@ until time = expr.Binary by.Sub (expr.Number (pos time) 0) expr.Time
 abbrev pub is_before : ℕ → Expr
 is_before time = expr.Binary by.Lt expr.Time (expr.Number (pos time) 0)
 
--- From before a time, with the moments behind it: `if t < T then T - t else ..`, and at the last time `T - t`.
+-- From before a time, with the moments after it: `if t < T then T - t else ..`, and at the last time `T - t`.
 abbrev pub to_next : ℕ → List Moment → Expr
 to_next time [] = until time
 to_next time (next ∷ later) = expr.Choose (is_before time) (until time) (to_next next.time later)
@@ -83,7 +83,7 @@ abbrev pub outputs_from : ℕ → List (List ℕ) → List Output
 outputs_from first [] = []
 outputs_from first (name ∷ names) = output_with name first ∷ outputs_from (first + 1) names
 
--- The longest step leads to the next time. With one moment there is no next time, and no step.
+-- The limit leads to the next time. With one moment there is no next time, so no `max` and no step.
 abbrev pub max_of_moments : List Moment → Option Expr
 max_of_moments [] = None
 max_of_moments (next ∷ later) = Some (to_next next.time later)
@@ -116,7 +116,7 @@ last_time first later = (last_of first later).time
 abbrev pub table_instance : Instance
 table_instance = record { name = codes "table"; unit = codes "Table"; settings = [] }
 
--- The unit and its one instance, which run until the last time.
+-- The unit and its one instance, which runs until the last time.
 abbrev pub table_system : List (List ℕ) → Moment → List Moment → System
 table_system names first later = record {
   version = 1;

@@ -5,7 +5,7 @@ use Rattle.std.specs.List.{AllByRecursion}
 use Rattle.stimulus_tables.specs.declared.moment.Moment.{Moment}
 use Rattle.unit_tree.specs.Tokens.{IsName}
 
--- A record is its fields.
+-- A record is a list of fields.
 abbrev pub Fields : Type 0
 Fields = List (List ℕ)
 
@@ -15,7 +15,7 @@ Fields = List (List ℕ)
 abbrev pub state_name : ℕ → List ℕ
 state_name number = codes "s" ++ decimal number
 
--- The names of 16 states are taken, whatever the number of columns.
+-- The names of 16 states are reserved, for any number of columns.
 abbrev pub IsTaken : List ℕ → Type 0
 IsTaken name = (number : ℕ) × (number < 16) × (name ≡ state_name number)
 
@@ -24,7 +24,7 @@ abbrev pub AllDiffer : List (List ℕ) → Type 0
 AllDiffer [] = ⊤
 AllDiffer (name ∷ names) = AllByRecursion (λ other. name ≢ other) names × AllDiffer names
 
--- The names of columns: one to 16 names of the language, which differ and are not taken.
+-- The names of columns: one to 16 names of the language, which differ and are not reserved.
 pub record AreNames (names : List (List ℕ)) : Type 0 where
   pub some : 1 ≤ length names
   pub few : length names ≤ 16
@@ -38,7 +38,8 @@ IsHead fields names = (fields ≡ codes "time" ∷ names) × AreNames names
 
 -- ---- Moments
 
--- The fields of a moment: its time in seconds, and the word of each column from then on, as decimal numbers without needless zeros or signs.
+-- The fields of a moment: its time in seconds, and the word of each column from then on, as decimal numbers without needless zeros or
+-- signs.
 abbrev pub fields_of_moment : Moment → Fields
 fields_of_moment moment = decimal moment.time ∷ map signed_decimal moment.words
 
@@ -58,7 +59,7 @@ IsNextTime [] time = time ≡ 0
 IsNextTime (last ∷ []) time = last.time < time
 IsNextTime (moment ∷ next ∷ later) time = IsNextTime (next ∷ later) time
 
--- The record is that of a moment which may follow these: there are fewer than 20 before it, and its time is the next.
+-- The record is that of a moment which may follow these: there are fewer than 20 before it, and its time is greater than theirs.
 pub record MayFollow (names : List (List ℕ)) (before : List Moment) (fields : Fields) (moment : Moment) : Type 0 where
   pub few : length before < 20
   pub written : fields ≡ fields_of_moment moment
@@ -73,7 +74,7 @@ Follow names before [] [] = ⊤
 Follow names before (fields ∷ records) (moment ∷ moments) = MayFollow names before fields moment × Follow names (before ++ (moment ∷ [])) records moments
 Follow names before _ _ = ⊥
 
--- The first of some records are a head with these names and the records of these moments, and these are left.
+-- Some records begin with a head with these names and the records of these moments; these others are left.
 pub record BeginsTable (records : List Fields) (names : List (List ℕ)) (moments : List Moment) (left : List Fields) : Type 0 where
   pub head : Fields
   pub front : List Fields
@@ -87,18 +88,18 @@ IsTable records names first later = BeginsTable records names (first ∷ later) 
 
 -- ---- Where records leave the form
 
--- The first record is no head, or there is none.
+-- The first record is not a head, or there is none.
 abbrev pub LacksHead : List Fields → Type 0
 LacksHead [] = ⊤
 LacksHead (fields ∷ records) = (names : List (List ℕ)) → IsHead fields names → ⊥
 
--- Behind these moments the next record is of none that may follow, or there is no record and no moment yet.
+-- After these moments the next record is not one of a moment that may follow, or there is no record and no moment yet.
 abbrev pub LacksMoment : List (List ℕ) → List Moment → List Fields → Type 0
 LacksMoment names moments (fields ∷ records) = (moment : Moment) → MayFollow names moments fields moment → ⊥
 LacksMoment names [] [] = ⊤
 LacksMoment names (moment ∷ moments) [] = ⊥
 
--- The record behind the head and these moments leaves the form.
+-- The record after the head and these moments leaves the form.
 pub record LeavesBehind (records : List Fields) (number : ℕ) : Type 0 where
   pub names : List (List ℕ)
   pub moments : List Moment
@@ -107,6 +108,6 @@ pub record LeavesBehind (records : List Fields) (number : ℕ) : Type 0 where
   pub lacks : LacksMoment names moments left
   pub number_is : number ≡ 2 + length moments
 
--- The records leave the form at the one of this number, from 1, or there lacks one of this number.
+-- The records leave the form at this number, from 1: this record is missing or doesn't have the form.
 abbrev pub LeavesForm : List Fields → ℕ → Type 0
 LeavesForm records number = (LacksHead records × (number ≡ 1)) ⊎ LeavesBehind records number

@@ -6,10 +6,10 @@ use thiserror::Error;
 /// Why a table has no system.
 #[derive(Clone, Copy, Debug, PartialEq, Eq, Error)]
 pub enum TableFault {
-    /// It leaves the form of a table of stimulus.
+    /// The table doesn't have the form of a table of stimulus.
     #[error("record {number} is not as it has to be")]
     Form {
-        /// The number of the first record that leaves it, from 1, or of the one that is lacking.
+        /// The number of the first record, from 1, that is missing or doesn't have the form.
         number: u32,
     },
     #[error("no memory")]

@@ -1,4 +1,4 @@
-//! Numbers and names of a table's fields.
+//! Numbers in a table's fields.
 ghost use Rattle.std.specs.Prelude.{◌≡◌, ℤ, true, Some};
 ghost use Rattle.std.specs.Fmt.{signed_decimal};
 ghost use Rattle.fixed_words.specs.Types.{is_word_of};
@@ -10,17 +10,17 @@ use itoa::Buffer;
 /// The greatest time of a table, in seconds.
 const LAST_TIME: i64 = 1_000_000_000;
 
-/// The greatest word of a table, with either sign.
+/// The greatest absolute value of a word of a table.
 const LARGEST_WORD: i64 = 1_000_000_000_000_000;
 
-/// The word that bytes are the text of, perhaps with more in front, as a sign or zeros.
+/// Returns the word that bytes spell, perhaps with a sign or zeros before it. `None` where they spell none.
 fn parse_word(bytes: &[u8]) -> Option<i64>
     ensures { (word : ℤ) → is_word_of Int64 word ≡ true → bytes.now ≡ signed_decimal word → result ≡ Some word }
 {
     str::from_utf8(bytes).ok()?.parse().ok()
 }
 
-/// The word that bytes are the text of, as it is written.
+/// Returns the word that bytes spell in its canonical form, or `None` where they spell none.
 fn word_in(bytes: &[u8]) -> Option<i64>
     ensures { Tells result (IsWordText bytes.now) }
 {
@@ -33,7 +33,7 @@ fn word_in(bytes: &[u8]) -> Option<i64>
     }
 }
 
-/// The time that bytes are the text of.
+/// Returns the time that bytes spell, or `None` where they spell none.
 pub(crate) fn time_in(bytes: &[u8]) -> Option<u64>
     ensures { Tells result (IsTimeText bytes.now) }
 {
@@ -45,7 +45,7 @@ pub(crate) fn time_in(bytes: &[u8]) -> Option<u64>
     }
 }
 
-/// The word that bytes are the text of, where a table may have it.
+/// Returns the word that bytes spell, where a table may have it.
 pub(crate) fn entry_in(bytes: &[u8]) -> Option<i64>
     ensures { Tells result (IsEntryText bytes.now) }
 {

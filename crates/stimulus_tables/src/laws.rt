@@ -25,7 +25,7 @@ pub fn tables_have_no_cycle()
     ensures { TablesHaveNoCycle }
 {}
 
-/// A law: the trace of the system of a table has a row at each of its times, with the words that the table holds then.
+/// A law: the trace of the system of a table has a row at each of its times, with the words that the table has for this time.
 pub fn tables_are_played()
     ensures { TablesArePlayed }
 {}

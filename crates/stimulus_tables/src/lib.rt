@@ -1,15 +1,16 @@
 //! Tables of stimulus: their form, the system that plays one, and the reader of tables.
 //!
 //! A table has a head, `time` and names, and records of moments: a time, and a word for each name from then on. Its system is one
-//! component with an output for each name. [`stimulus`] makes the system of a table, or returns the first record that leaves the form.
-//! Records are those that `csv` reads, after a byte order mark at the beginning of a table; [`read_table`] and [`take_record`] read
-//! the records of any table.
+//! component with an output for each name. [`stimulus`] returns the system of a table, or the first record that doesn't have the
+//! form. `csv` reads the records, after a byte order mark at the beginning of a table. [`read_table`] and [`take_record`] read the
+//! records of any table.
 //!
-//! `specs/Records.antt` has the records of a table, `specs/Tables.antt` says which records are a table of stimulus, and at which one
-//! others leave the form; `specs/TableSystems.antt` has the system, and `specs/Stimuli.antt` what [`stimulus`] makes of a table.
-//! `specs/Laws.antt` says that records are one table or leave the form at one number, and of the system of a table that it is
-//! well-formed, can be printed and has no cycle, and that its trace has a row at each time of the table with the words that the table
-//! holds. `specs/Reading.antt` and `specs/TableFields.antt`, which need not be believed, say how records and fields are read.
+//! `specs/Records.antt` defines the records of a table. `specs/Tables.antt` defines which records are a table of stimulus, and at which
+//! one others leave the form. `specs/TableSystems.antt` defines the system, and `specs/Stimuli.antt` the result of [`stimulus`].
+//!
+//! The laws of `specs/Laws.antt`: records are one table or leave the form at one number. The system of a table is well-formed, can
+//! be printed and has no cycle. Its trace has a row at each time of the table, with the words that the table has for this time.
+//! `specs/Reading.antt` and `specs/TableFields.antt` describe how records and fields are read; no promise depends on them.
 #![tactic(auto)]
 
 mod fault;

@@ -11,10 +11,10 @@ use fixed_words::{List, NoMemory};
 use std::alloc::Global;
 use unit_tree::Name;
 
-/// The most moments of a table.
+/// The greatest number of moments of a table.
 const MOST_MOMENTS: usize = 20;
 
-/// The words of a record behind its first field.
+/// Returns the words of a record after its first field.
 fn words_in(alloc: Global, fields: &ByteRecord) -> Result<Option<List<i64>>, NoMemory>
     ensures { IfOk result (λ told. Tells told (AreEntries (drop 1 (fields_of fields.now)))) }
 {
@@ -30,7 +30,7 @@ fn words_in(alloc: Global, fields: &ByteRecord) -> Result<Option<List<i64>>, NoM
     Ok(Some(words))
 }
 
-/// The moment of a record, with so many words.
+/// Returns the moment of a record, with so many words.
 fn moment_in(alloc: Global, fields: &ByteRecord, count: usize) -> Result<Option<Moment>, NoMemory>
     ensures { IfOk result (λ told. Tells told (IsMomentOf count (fields_of fields.now))) }
 {
@@ -50,7 +50,7 @@ fn moment_in(alloc: Global, fields: &ByteRecord, count: usize) -> Result<Option<
     }
 }
 
-/// Whether a time may follow those of some moments.
+/// Returns whether a time may follow those of some moments.
 fn is_next_time(before: &[Moment], time: u64) -> bool
     ensures { Decides result (IsNextTime before.now time) }
 {
@@ -60,7 +60,7 @@ fn is_next_time(before: &[Moment], time: u64) -> bool
     }
 }
 
-/// The moment of a record, where it may follow some moments.
+/// Returns the moment of a record, where it may follow some moments.
 pub(crate) fn next_moment(
     alloc: Global,
     fields: &ByteRecord,

@@ -14,10 +14,10 @@ use std::alloc::{AllocError, Global};
 use text_tokens::{Unread, tokens};
 use unit_tree::{Name, Token};
 
-/// The most columns of a table.
+/// The greatest number of names of a table.
 const MOST_NAMES: usize = 16;
 
-/// What stands behind an `s` that comes first.
+/// Returns the bytes after an `s`, where the name begins with one.
 fn behind_s(name: &[u8]) -> Option<&[u8]>
     ensures { option_map (λ digits. digits.now) result ≡ behind_s name.now }
 {
@@ -27,7 +27,7 @@ fn behind_s(name: &[u8]) -> Option<&[u8]>
     }
 }
 
-/// Whether a name is that of a state, by a number below 16.
+/// Returns whether a name is reserved for a state: `s` and a number below 16.
 fn is_taken(name: &[u8]) -> bool
     ensures { Decides result (IsTaken name.now) }
 {
@@ -40,7 +40,7 @@ fn is_taken(name: &[u8]) -> bool
     }
 }
 
-/// The one token of some, if there is just one.
+/// Returns the only token of some, if there is exactly one.
 fn only(tokens: &[Token]) -> Option<&Token>
     ensures { Tells (option_map (λ token. token.now) result) (λ token. tokens.now ≡ token ∷ []) }
 {
@@ -50,7 +50,7 @@ fn only(tokens: &[Token]) -> Option<&Token>
     }
 }
 
-/// Whether a token is this name.
+/// Returns whether a token is this name.
 fn is_token(token: &Token, name: &[u8]) -> bool
     ensures { Decides result (token.now ≡ Token.Name name.now) }
 {
@@ -60,7 +60,7 @@ fn is_token(token: &Token, name: &[u8]) -> bool
     }
 }
 
-/// Whether tokens are this name alone.
+/// Returns whether tokens are only this name.
 fn are_name(tokens: &[Token], name: &[u8]) -> bool
     ensures { Decides result (tokens.now ≡ Token.Name name.now ∷ []) }
 {
@@ -70,7 +70,7 @@ fn are_name(tokens: &[Token], name: &[u8]) -> bool
     }
 }
 
-/// Whether bytes are a name of the language.
+/// Returns whether bytes are a name of the language.
 fn is_name(alloc: Global, bytes: &[u8]) -> Result<bool, NoMemory>
     ensures { IfOk result (λ told. Decides told (IsName bytes.now)) }
 {
@@ -81,14 +81,14 @@ fn is_name(alloc: Global, bytes: &[u8]) -> Result<bool, NoMemory>
     }
 }
 
-/// Whether a name is one of some.
+/// Returns whether a name is one of some.
 fn is_among(names: &[Name], name: &[u8]) -> bool
     ensures { result ≡ is_among names.now name.now }
 {
     names.iter().any(|other| name == other.as_slice())
 }
 
-/// Whether a name may stand in a head behind these.
+/// Returns whether a head may have a name after these.
 fn is_next_name(alloc: Global, name: &[u8], before: &[Name]) -> Result<bool, NoMemory>
     ensures { IfOk result (λ told. Decides told (IsNextName before.now name.now)) }
 {
@@ -101,7 +101,7 @@ fn is_next_name(alloc: Global, name: &[u8], before: &[Name]) -> Result<bool, NoM
     is_name(alloc, name)
 }
 
-/// The names of a head.
+/// Returns the names of a head.
 pub(crate) fn names_in(alloc: Global, fields: &ByteRecord) -> Result<Option<List<Name>>, NoMemory>
     ensures { IfOk result (λ told. Tells told (IsHead (fields_of fields.now))) }
 {

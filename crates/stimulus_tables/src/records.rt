@@ -8,7 +8,7 @@ use csv::{ByteRecord, Reader, ReaderBuilder};
 use fixed_words::NoMemory;
 use std::alloc::{AllocError, Global};
 
-/// A reader of a table's records, which may have any numbers of fields.
+/// Returns a reader of a table's records, which may have any numbers of fields.
 pub fn read_table(alloc: Global, table: &[u8]) -> Reader<&[u8]>
     ensures { Gives result (records_of table.now) }
 {
@@ -18,7 +18,7 @@ pub fn read_table(alloc: Global, table: &[u8]) -> Reader<&[u8]>
         .from_reader(alloc, table)
 }
 
-/// Puts the next record in the place of what `fields` holds. The answer tells whether there is one.
+/// Replaces the contents of `fields` by the next record. Returns whether there is one.
 pub fn take_record(reader: &mut Reader<&[u8]>, fields: &mut ByteRecord) -> Result<bool, NoMemory>
     ensures { (rest : List Fields) → Gives reader.old rest → IfOk result (λ found. Took rest found (fields_of fields.new) reader.new) }
 {

@@ -1,4 +1,4 @@
-//! A table becomes the system that plays it.
+//! The system that plays a table.
 ghost use Rattle.std.specs.Prelude.{◌≡◌, ◌∷◌, [], List, IfOk};
 ghost use Rattle.std.specs.List.{AllByRecursion};
 ghost use Rattle.stimulus_tables.specs.Tables.{BeginsTable, IsWritable};
@@ -17,7 +17,7 @@ use fixed_words::List;
 use std::alloc::Global;
 use unit_tree::{Name, System};
 
-/// The names of the head.
+/// Reads the names of the head.
 fn read_head(
     alloc: Global,
     reader: &mut Reader<&[u8]>,
@@ -34,7 +34,7 @@ fn read_head(
     }
 }
 
-/// The moments of the records behind the head.
+/// Reads the moments of the records after the head.
 fn read_moments(
     alloc: Global,
     reader: &mut Reader<&[u8]>,
@@ -55,7 +55,7 @@ fn read_moments(
     Ok(moments)
 }
 
-/// The system of names and moments.
+/// Returns the system of names and moments.
 fn system_of(alloc: Global, names: &[Name], moments: &[Moment]) -> Result<System, TableFault>
     requires { AllByRecursion IsWritable moments.now }
     ensures { (records : List Fields) → BeginsTable records names.now moments.now [] → MakesSystem records result }
@@ -66,13 +66,13 @@ fn system_of(alloc: Global, names: &[Name], moments: &[Moment]) -> Result<System
     }
 }
 
-/// The system of a table: a component with an output for each column, which has the words of each record from its time on. The table
-/// has a head, `time` and one to 16 names, and one to 20 records of a time in seconds and a word for each name.
+/// Returns the system of a table: a component with an output for each column, which has the words of each record from its time
+/// on. The table has a head, `time` and one to 16 names, and one to 20 records of a time in seconds and a word for each name.
 ///
 /// # Errors
 ///
-/// [`TableFault::Form`] exactly where the table is not of this form. Want of memory is a free answer.
-// It stands by itself, since a caller that prints the system needs no room for a reader of records then.
+/// [`TableFault::Form`] exactly where the table doesn't have this form. The call may fail for lack of memory at any time.
+// It is not inlined, so that the stack of a caller that prints the system has no space for a reader of records.
 #[inline(never)]
 pub fn stimulus(alloc: Global, table: &[u8]) -> Result<System, TableFault>
     ensures { MakesSystem (records_of table.now) result }

@@ -12,7 +12,7 @@ use unit_tree::{BinOp, Expr, Instance, Line, Name, Output, State, System, UnOp, 
 
 // ---- Expressions
 
-/// A number from 0 up in an expression.
+/// Returns a number from 0 up as an expression.
 fn natural(number: u64) -> Expr
     requires { number ≤ 10 ^ 15 }
     ensures { result ≡ Expr.Number (pos number) 0 }
@@ -23,7 +23,7 @@ fn natural(number: u64) -> Expr
     }
 }
 
-/// A word in an expression.
+/// Returns a word as an expression.
 fn number(alloc: Global, word: i64) -> Result<Expr, NoMemory>
     requires { unsigned_abs word ≤ 10 ^ 15 }
     ensures { IfOk result (λ whole. whole ≡ number word) }
@@ -180,7 +180,7 @@ fn outputs(alloc: Global, names: &[Name]) -> Result<List<Output>, NoMemory>
     Ok(outputs)
 }
 
-/// What leads from one moment to the next, where there is one.
+/// Returns the `max`, which leads from one moment to the next, where there is a later one.
 fn max(alloc: Global, later: &[Moment]) -> Result<Option<Expr>, NoMemory>
     requires { AllByRecursion IsWritable later.now }
     ensures { IfOk result (λ max. max ≡ max_of_moments later.now) }
@@ -191,7 +191,7 @@ fn max(alloc: Global, later: &[Moment]) -> Result<Option<Expr>, NoMemory>
     }
 }
 
-/// The step, where there is a moment behind the first.
+/// Returns the step, where there is a moment after the first.
 fn step(alloc: Global, later: &[Moment]) -> Result<Option<List<Line>>, NoMemory>
     requires { AllByRecursion IsWritable later.now }
     ensures { IfOk result (λ step. step ≡ step_of_moments later.now) }
@@ -202,7 +202,7 @@ fn step(alloc: Global, later: &[Moment]) -> Result<Option<List<Line>>, NoMemory>
     Ok(Some(step_lines(alloc, later)?))
 }
 
-/// The unit of a table.
+/// Returns the unit of a table.
 fn unit(alloc: Global, names: &[Name], first: &Moment, later: &[Moment]) -> Result<Unit, NoMemory>
     requires { AllByRecursion IsWritable later.now }
     ensures { IfOk result (λ unit. unit ≡ table_unit names.now first.now later.now) }
@@ -239,7 +239,7 @@ fn instance(alloc: Global) -> Result<Instance, NoMemory>
     })
 }
 
-/// A list of one item.
+/// Returns a list of one item.
 fn one<T: Drop>(alloc: Global, item: T) -> Result<List<T>, NoMemory>
     ensures { IfOk result (λ list. list ≡ item ∷ []) }
 {
@@ -248,7 +248,7 @@ fn one<T: Drop>(alloc: Global, item: T) -> Result<List<T>, NoMemory>
     Ok(list)
 }
 
-/// A number of seconds.
+/// Returns a number of seconds.
 fn seconds(time: u64) -> Literal
     requires { time ≤ 10 ^ 9 }
     ensures { result ≡ Literal.Number (pos time) 0 }
@@ -259,7 +259,7 @@ fn seconds(time: u64) -> Literal
     }
 }
 
-/// The last time of a table.
+/// Returns the last time of a table.
 fn last_time(first: &Moment, later: &[Moment]) -> u64
     requires { AllByRecursion IsWritable (first.now ∷ later.now) }
     ensures value { result ≡ last_time first.now later.now }
@@ -271,7 +271,7 @@ fn last_time(first: &Moment, later: &[Moment]) -> u64
     }
 }
 
-/// The system of a table: a component with an output for each name, which has the words of each moment from its time on.
+/// Returns the system of a table: a component with an output for each name, which has the words of each moment from its time on.
 pub(crate) fn table_system(
     alloc: Global,
     names: &[Name],

@@ -1,11 +1,11 @@
--- A phase that wants no step can be settled.
+-- A phase that requires no step can be settled.
 use Rattle.std.proofs.Common.{◌≡◌, ℕ, zero, suc, ◌+◌, ◌<◌, ◌≤◌, ◌⊎◌, inl, inr, List, [], ◌∷◌, length, Some, subst, arith}
 use Rattle.std.specs.Prelude.{slice_get}
 use Rattle.std.proofs.lemmas.Bool.{cases_lt}
 use Rattle.trace_core.specs.Runs.{Cell, Empty, RunState, Stands, AreCellsFull}
 use Rattle.trace_rows.proofs.Filling.{few_cells, full_cell}
 
--- none of the first cells is empty
+-- None of the first cells is empty.
 abbrev pub NoneWanted : List Cell → ℕ → Type 0
 NoneWanted cells count = (place : ℕ) → place < count → slice_get cells place ≡ Some Empty → ⊥
 

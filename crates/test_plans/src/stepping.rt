@@ -1,4 +1,4 @@
-//! The steps of a phase, and what settling it comes to.
+//! The steps of a phase, and the result of settling it.
 ghost use Rattle.std.specs.Prelude.{◌≡◌, true, false};
 ghost use Rattle.trace_core.specs.Runs.{AreCellsFull, is_ended};
 
@@ -6,14 +6,14 @@ use model_rules::MOST_INSTANCES;
 use std::test::Fail;
 use trace_core::{Phase, Run, Settle};
 
-/// Makes the step of an instance, where it is wanted.
+/// Makes the step of an instance, where it is required.
 pub fn step(run: &mut Run, instance: u32) {
     if run.wants(instance).is_some() {
         run.compute(instance);
     }
 }
 
-/// Makes all steps that are wanted, from the first instance on, or from the last one.
+/// Makes all required steps, beginning with the first instance or with the last one.
 fn step_all(run: &mut Run, last_first: bool) {
     for turn in 0..MOST_INSTANCES as u32 {
         let instance = if last_first {
@@ -25,7 +25,7 @@ fn step_all(run: &mut Run, last_first: bool) {
     }
 }
 
-/// Whether a run goes on, and wants no step.
+/// Returns whether a run goes on, and requires no step.
 fn can_settle(run: &Run) -> bool
     ensures going { result ≡ true → is_ended run.now.phase ≡ false }
     ensures full { result ≡ true → AreCellsFull run.now.cells }
@@ -41,7 +41,7 @@ fn can_settle(run: &Run) -> bool
     true
 }
 
-/// Makes all steps that are wanted, and settles the phase.
+/// Makes all required steps, and settles the phase.
 pub fn settle(run: &mut Run, last_first: bool) -> Result<Settle, Fail> {
     step_all(run, last_first);
     if !can_settle(run) {

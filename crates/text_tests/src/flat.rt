@@ -12,7 +12,7 @@ fn counts(flat: Result<System, NestFault>) -> Counts {
     Ok((system.instances.len(), system.wires.len()))
 }
 
-/// What comes of a nested text, made flat of a copy of its `main` and of `main` itself.
+/// Returns the result for a nested text that is made flat, from a copy of its `main` and from `main` itself.
 fn flat(alloc: Global, text: &[u8]) -> Result<(Counts, Counts), NestFault> {
     let nest = read_nest(alloc, text)?;
     if nest.lines.len() != nest.groups.len() {

@@ -1,7 +1,7 @@
-//! Tests of texts and systems that one crate makes of another: nested texts, flat systems, upgraded systems, generated systems.
+//! Tests of texts and systems that one crate makes from another: nested texts, flat systems, upgraded systems, generated systems.
 //!
-//! Each call that may answer that there is no memory succeeds here once. What is expected is worked out by hand. All else is
-//! asked of the built program, by the texts of `tests/`.
+//! Each call that may fail for lack of memory succeeds here once. The expected results were worked out by hand. All other tests are of
+//! the built program, by the texts of `tests/`.
 #![tactic(auto)]
 
 #[cfg(test)]

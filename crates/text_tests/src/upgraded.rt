@@ -8,7 +8,7 @@ use unit_text::read_system;
 use unit_tree::{Checked, System};
 use unit_upgrade::upgrade;
 
-/// The system of a text that keeps the rules.
+/// Returns the system of a text that keeps the rules.
 #[tactic(auto, using(unit_upgrade::proofs::PrintedUpgrades::prints_in_range))]
 fn judged(alloc: Global, text: &[u8]) -> Result<Checked, Fail>
     ensures { IfOk result IsPrintable }
@@ -17,7 +17,7 @@ fn judged(alloc: Global, text: &[u8]) -> Result<Checked, Fail>
     Ok(check(alloc, read.system)?)
 }
 
-/// The version and the budgets of a system.
+/// Returns the version and the budgets of a system.
 fn numbers(system: &System) -> (u8, Option<u32>, Option<u32>) {
     (system.version, system.zero, system.rows)
 }

@@ -1,4 +1,4 @@
--- What the rule comes to: each item once, and each place with one taker.
+-- The consequences of the rule: each item once, and each place with one taker.
 use Rattle.std.proofs.Common.{◌≡◌, ◌≢◌, ◌==◌, ℕ, zero, suc, ◌+◌, ◌<◌, cond, true, false, List, [], ◌∷◌, ◌++◌, map, take, sym, refl, ap, ◌∙◌, subst, ⊎_elim}
 use Rattle.std.proofs.Common.{arith, add-one}
 use Rattle.std.specs.Prelude.{All, slice_get, Some, IsPermutation}
@@ -24,7 +24,7 @@ module _ {T : Type 0} where
   times-append : (place : ℕ) (xs ys : List (ℕ × T)) → times place (xs ++ ys) ≡ times place xs + times place ys
   times-append place xs ys = sum_by-append (IsAt place) xs ys
 
-  -- where a place stands once or more, it can be brought to the front
+  -- Where a place occurs, it can be moved to the beginning.
   pub record Brought (place : ℕ) (es : List (ℕ × T)) : Type 0 where
     pub entry : ℕ × T
     pub rest : List (ℕ × T)
@@ -49,7 +49,7 @@ module _ {T : Type 0} where
   abbrev Matches : List T → ℕ × T → Type 0
   Matches puts e = slice_get puts e.0 ≡ Some e.1
 
-  -- without the last place, all places are below it
+  -- Without the last place, all places are below it.
   narrower : (k : ℕ) (es : List (ℕ × T)) → All (Before (suc k)) es → times k es ≡ 0 → All (Before k) es
   narrower k [] all none = All-nil (Before k)
   narrower k (e ∷ es) all none =
@@ -71,7 +71,7 @@ module _ {T : Type 0} where
       ⊎_elim (λ (h : (e.0 == k ≡ true) × (e.0 ≡ k)). absurd (other h.1)) (λ (h : (e.0 == k ≡ false) × (e.0 ≢ k)). ap (λ b. cond {A = ℕ} b 1 0) h.0)
       (eqb_tells e.0 k)
 
-  -- what was taken is the puts below front
+  -- What was taken is the items that were added below `front`.
   taken_once : (puts : List T) (k : ℕ) (es : List (ℕ × T)) → All (Before k) es → ((place : ℕ) → place < k → times place es ≡ 1) → All (Matches puts) es
       → IsPermutation (map (λ e. e.1) es) (take k puts)
   taken_once puts zero [] below once matching = IsPermutation-refl []

@@ -26,7 +26,7 @@ module _ {T : Type 0} where
   abbrev pub Owned : List T → List (View T) → Type 0
   Owned puts views = (got : List (ℕ × T)) × (others : List (View T)) × (views ≡ Owner puts got ∷ others) × All IsThief others
 
-  -- a deque that was just made
+  -- A new deque.
   pub begins : IsInOrder {T = T} [] (Owner [] [] ∷ [])
   begins = record {
     puts = [];
@@ -39,7 +39,7 @@ module _ {T : Type 0} where
     matching = All-nil _;
   }
 
-  -- an end that takes one more adds one to what all took
+  -- An end that takes one more item adds one to what all took.
   grows : (views : List (View T)) (port : ℕ) (v w : View T) (e : ℕ × T) → get_elem? views port ≡ some v → taken w ≡ taken v ++ e ∷ []
       → IsPermutation (e ∷ all_taken views) (all_taken (set views port w))
   grows [] port v w e at add = absurd (some-ne-none v (sym at))
@@ -52,7 +52,7 @@ module _ {T : Type 0} where
       IsPermutation-trans _ (taken u ++ e ∷ all_taken us) _ (IsPermutation-sym _ _ (IsPermutation-middle (taken u) e (all_taken us)))
       (IsPermutation-append _ _ _ _ (IsPermutation-refl (taken u)) (grows us port v w e at add))
 
-  -- an end that takes nothing adds nothing
+  -- An end that takes nothing adds nothing.
   stays : (views : List (View T)) (port : ℕ) (v w : View T) → get_elem? views port ≡ some v → taken w ≡ taken v → all_taken (set views port w) ≡ all_taken views
   stays [] port v w at same = refl
   stays (u ∷ us) zero v w at same = ap (λ l. l ++ all_taken us) (same ∙ ap taken (sym (some-injective u v at)))
@@ -62,7 +62,7 @@ module _ {T : Type 0} where
   joins [] = refl
   joins (u ∷ us) = ap (λ l. taken u ++ l) (joins us)
 
-  -- what holds of all that was taken holds of what one end took
+  -- What holds of all that was taken holds of what one end took.
   mine : (P : ℕ × T → Type 0) (views : List (View T)) (port : ℕ) (v : View T) → All P (all_taken views) → get_elem? views port ≡ some v → All P (taken v)
   mine P [] port v all at = absurd (some-ne-none v (sym at))
   mine P (u ∷ us) zero v all at =
@@ -70,7 +70,7 @@ module _ {T : Type 0} where
       (subst (All P) (take-append_seam (taken u) (all_taken us)) (All-take P (length (taken u)) _ all))
   mine P (u ∷ us) (suc port) v all at = mine P us port v (subst (All P) (drop-append_seam (taken u) (all_taken us)) (All-drop P (length (taken u)) _ all)) at
 
-  -- the first of what is left is the put of its place
+  -- The first item that is left is the one that was added at its place.
   first_of : (puts : List T) (k : ℕ) (x : T) (items : List T) → x ∷ items ≡ drop k puts
       → (k < length puts) × (items ≡ drop (suc k) puts) × (slice_get puts k ≡ Some x)
   first_of [] zero x items e = cc
@@ -96,7 +96,7 @@ module _ {T : Type 0} where
   abbrev pub IsAt : ℕ → ℕ × T → ℕ
   IsAt place e = cond (e.0 == place) 1 0
 
-  -- none of the places below front is front
+  -- No place below `front` is `front`.
   none_at : (es : List (ℕ × T)) (front : ℕ) → All (Before front) es → count_by (λ e. e.0 == front) es ≡ 0
   none_at [] front all = refl
   none_at (e ∷ es) front all =
@@ -154,7 +154,7 @@ module _ {T : Type 0} where
         thief_put v place x thief,
       )
 
-  -- taking the first item keeps the rule, at any end
+  -- Taking the first item keeps the rule, at any end.
   pub takes : (port : ℕ) (v : View T) → Takes IsInOrder port v 1 (steps.Takes v)
   takes port v [] items views some_left few h at = absurd (omega arith)
   takes port v (x ∷ y ∷ xs) items views some_left few h at = absurd (omega arith)
@@ -174,7 +174,7 @@ module _ {T : Type 0} where
         },
       )
 
-  -- a put by the first end keeps the rule
+  -- Adding an item by the first end keeps the rule.
   puts_first : (xs items : List T) (views : List (View T)) (h : IsInOrder items views) (v : View T) → get_elem? views 0 ≡ some v
       → IsInOrder (items ++ xs) (set views 0 (after_put v xs))
   puts_first xs items views h v at =
@@ -201,7 +201,7 @@ module _ {T : Type 0} where
       let P : ℕ → Type 0 = λ k. get_elem? views k ≡ some v → IsInOrder (items ++ xs) (set views k (after_put v xs)) in
       (after_put v xs, subst P (sym first) (puts_first xs items views h v) at, refl)
 
-  -- a new end, which has taken nothing, keeps the rule
+  -- A new end, which has taken nothing, keeps the rule.
   pub admits : Admits (IsInOrder {T = T}) (Thief [])
   admits items views h =
       let same : all_taken (views ++ Thief [] ∷ []) ≡ all_taken views = joins views in record {
@@ -214,7 +214,7 @@ module _ {T : Type 0} where
         matching = subst (All (λ (e : ℕ × T). slice_get h.puts e.0 ≡ Some e.1)) (sym same) h.matching;
       }
 
-  -- where the queue is empty, an end learns so
+  -- Where the queue is empty, an end learns it.
   pub finds : (port : ℕ) (v : View T) → Finds IsInOrder port v (WasEmpty v)
   finds port v views h at = record { views = views; port = port; at = at; state = h }
 
@@ -222,7 +222,7 @@ module _ {T : Type 0} where
   finds_few most port v none [] views few h at = finds port v views h at
   finds_few most port v none (x ∷ items) views few h at = absurd (omega arith)
 
-  -- what a take of an owner's end tells of the hand
+  -- The effect of a take of an owner's end on the hand.
   pub hand_takes : (deque deque' : ℕ × ℕ) (v w : View T) (puts : List T) (got : List (ℕ × T)) (x : T) → deque' ≡ deque → v ≡ Owner puts got → TakesFirst v x w
       → HandTakes (owner_state deque v) (owner_state deque' w) x
   hand_takes deque deque' v w puts got x same is t =

@@ -1,4 +1,4 @@
--- What the passes of a reach took.
+-- What was taken by the passes of a reach.
 use Rattle.std.specs.Prelude.{◌≡◌, ℕ, List, [], ◌++◌, Option, None, Some, Box}
 use Rattle.std.specs.declared.alloc.Global.{Global}
 use Rattle.crossbeam_deque.specs.Handles.{view}
@@ -7,7 +7,7 @@ use Rattle.ticket_deque.specs.Rule.{taken}
 use Rattle.ticket_deque.specs.declared.passes.Passes.{Passes, Passes', Held-Passes-joined, None', Some'}
 
 abbrev mutual
-  -- what the passes of a tree took: those that stand beside it, those below it, and then its own
+  -- What the passes of a tree took: those next to it, those below it, and then its own.
   pub entries : {T : Type 0} → Passes T → List (ℕ × T)
   entries (Passes' own joined next) = held_entries next ++ (held_entries joined ++ taken (view own))
 
@@ -16,7 +16,7 @@ abbrev mutual
   held_entries (Some' p passes) = entries passes
 
 abbrev mutual
-  -- every pass of a tree is of this deque
+  -- Every pass of a tree is of this deque.
   pub AreOf : {T : Type 0} → DequeId → Passes T → Type 0
   AreOf deque (Passes' own joined next) = (own.rows ≡ deque) × AreHeldOf deque joined × AreHeldOf deque next
 
@@ -25,7 +25,7 @@ abbrev mutual
   AreHeldOf deque (Some' p passes) = AreOf deque passes
 
 module _ {T : Type 0} where
-  -- the same where there may be no tree
+  -- The same, where there may be no tree.
   abbrev pub entries_below : Option (Box (Passes T) Global) → List (ℕ × T)
   entries_below None = []
   entries_below (Some b) = entries b.value

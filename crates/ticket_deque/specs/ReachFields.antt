@@ -1,4 +1,4 @@
--- How the fields of a reach are seen.
+-- What contracts see of the fields of a reach.
 use Rattle.std.specs.Prelude.{◌≡◌, None}
 use Rattle.crossbeam_deque.specs.Handles.{view, IsPassOf, stealer_deque, stealer_flavor}
 use Rattle.ticket_deque.specs.Ends.{ReachState}
@@ -17,7 +17,7 @@ module _ {T : Type 0} where
             entries_below (out-Passes T r.passes.value).joined;
       }
 
-  -- it steals at the front, by a pass that is no owner's, and all its passes are of that deque
+  -- It steals at the front, by a pass that is not the owner's, and all its passes are of that deque.
   pub record IsReach (r : Inside T) : Type 0 where
     pub fifo : stealer_flavor r.stealer ≡ 0
     pub pass : IsPassOf (stealer_deque r.stealer) (out-Passes T r.passes.value).own

@@ -1,4 +1,4 @@
--- What one step on a deque tells the end that makes it.
+-- The effect of one step on a deque on the view of the end that makes it.
 use Rattle.std.specs.Prelude.{◌≡◌, ℕ, ◌<◌, List, [], ◌∷◌, ◌++◌, All, slice_get, Some}
 use mathlib.Core.Option.{some}
 use lib.ListN.{get_elem?}
@@ -7,22 +7,22 @@ use Rattle.ticket_deque.specs.declared.view.View.{View}
 use Rattle.ticket_deque.specs.declared.view.View.TheVariants.{Owner, Thief}
 
 module _ {T : Type 0} where
-  -- the view once these items were put
+  -- The view after these items were added.
   abbrev pub after_put : View T → List T → View T
   after_put (Owner puts got) xs = Owner (puts ++ xs) got
   after_put (Thief got) xs = Thief got
 
-  -- the view once the item of this place was taken
+  -- The view after the item of this place was taken.
   abbrev pub after_take : View T → ℕ → T → View T
   after_take (Owner puts got) place x = Owner puts (got ++ (place, x) ∷ [])
   after_take (Thief got) place x = Thief (got ++ (place, x) ∷ [])
 
-  -- where the end knows the puts, the item is the put of the place
+  -- Where the end knows the added items, the item is the one that was added at the place.
   abbrev pub IsPut : View T → ℕ → T → Type 0
   IsPut (Owner puts got) place x = slice_get puts place ≡ Some x
   IsPut (Thief got) place x = Unit {0}
 
-  -- in some state in order, in which an end has this view, the item is the first of the queue and has this place
+  -- In some state in order, in which an end has this view, the item is the first of the queue and has this place.
   pub record WasFirst (v : View T) (place : ℕ) (x : T) : Type 0 where
     pub queue : List T
     pub views : List (View T)
@@ -31,14 +31,14 @@ module _ {T : Type 0} where
     pub state : IsInOrder (x ∷ queue) views
     pub place_is : place ≡ state.front
 
-  -- in some state in order, in which an end has this view, the queue is empty
+  -- In some state in order, in which an end has this view, the queue is empty.
   pub record WasEmpty (v : View T) : Type 0 where
     pub views : List (View T)
     pub port : ℕ
     pub at : get_elem? views port ≡ some v
     pub state : IsInOrder [] views
 
-  -- the first item was taken, from a place behind all that this end took
+  -- The first item was taken, from a place after all that this end took.
   pub record TakesFirst (v : View T) (x : T) (w : View T) : Type 0 where
     pub place : ℕ
     pub after : w ≡ after_take v place x
@@ -46,7 +46,7 @@ module _ {T : Type 0} where
     pub is_put : IsPut v place x
     pub first : WasFirst v place x
 
-  -- the same for the list of the items that left, which is one item
+  -- The same for the list of the items that left, which is one item.
   abbrev pub Takes : View T → List T → View T → Type 0
   Takes v [] w = Unit {0}
   Takes v (x ∷ xs) w = TakesFirst v x w

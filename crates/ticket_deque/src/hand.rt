@@ -1,4 +1,4 @@
-// The owner's end.
+// The owner's end of a deque.
 ghost use Rattle.std.specs.Prelude.{◌≡◌, [], ◌∷◌, ◌++◌, ◌≤◌, length, IfOk, IfErr, OnOk, OnErr, IfSome, IfNone};
 ghost use Rattle.ticket_deque.specs.Ends.{HandTakes, HandFindsNone};
 
@@ -8,12 +8,12 @@ use crossbeam_deque::Worker;
 use std::alloc::{AllocError, Global};
 use std::marker::Model;
 
-// The slots that a deque begins with: so many puts find one.
+// The number of slots of a new deque: so many items can be added without taking memory.
 const ROOM: usize = 64;
 
-/// The owner's end of a deque: it puts items at the back, and takes them at the front.
+/// The owner's end of a deque: it adds items at the back, and takes them at the front.
 ///
-/// Contracts see it as `HandState`: its deque, its puts, and the places and items that it took.
+/// Contracts see it as `HandState`: its deque, the items that it added, and the places and items that it took.
 #[derive(Drop)]
 pub struct Hand<T> {
     worker: Worker<T, Global, View<T>, InOrder>,
@@ -31,9 +31,9 @@ impl<T> Model for Hand<T> {
     ghost invariant = { IsHand };
 }
 
-/// An empty deque: its hand, which has put and taken nothing, and a first reach, which has taken nothing.
+/// Makes an empty deque. Returns its hand, which has added and taken nothing, and a first reach, which has taken nothing.
 ///
-/// `AllocError` where there is no memory for them.
+/// Fails with `AllocError` where there is no memory for them.
 pub fn make<T: Drop>(alloc: Global) -> Result<(Hand<T>, Reach<T>), AllocError>
     ensures hand { IfOk result (λ ends. (ends.0.puts ≡ []) × (ends.0.taken ≡ [])) }
     ensures reach { IfOk result (λ ends. (ends.1.deque ≡ ends.0.deque) × (ends.1.taken ≡ []) × (ends.1.joined ≡ [])) }
@@ -46,8 +46,8 @@ pub fn make<T: Drop>(alloc: Global) -> Result<(Hand<T>, Reach<T>), AllocError>
 impl<T: Drop> Hand<T> {
     /// Adds an item at the back.
     ///
-    /// Where the deque is full and finds no storage to grow, the item comes back and nothing has changed. The first 64
-    /// puts find a place.
+    /// Fails where the deque is full and there is no memory to grow: it returns the item, and nothing has changed. The first 64
+    /// items always find a slot.
     pub fn put(&mut self, item: T) -> Result<(), T>
         ensures ok { OnOk result (self.new ≡ record self.old { puts = self.old.puts ++ item ∷ [] }) }
         ensures refused { IfErr result (λ back. (back ≡ item) × (self.new ≡ self.old)) }
@@ -58,7 +58,7 @@ impl<T: Drop> Hand<T> {
 
     /// Takes the first item.
     ///
-    /// `None` only where the deque was empty at a step of this call.
+    /// Returns `None` only where the deque was empty at some moment of this call.
     pub fn next(&mut self) -> Option<T>
         ensures some { IfSome result (HandTakes self.old self.new) }
         ensures none { IfNone result (HandFindsNone self.old self.new) }

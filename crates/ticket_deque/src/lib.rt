@@ -1,34 +1,33 @@
-//! A deque that one owner fills and that several thieves may take from, first in first out.
+//! A deque to which one owner adds items and from which several thieves may take them, first in first out.
 //!
-//! [`make`] gives the owner's end, a [`Hand`], and a first thief's end, a [`Reach`]. The hand puts items at the back
-//! and takes them at the front. A reach takes them at the front too, in any thread, and [`Reach::split`] makes more of
-//! them. Below stand the ruled forms of `crossbeam_deque`.
+//! [`make`] returns the owner's end, a [`Hand`], and a first thief's end, a [`Reach`]. The hand adds items at the back and takes
+//! them at the front. A reach takes them at the front too, in any thread, and [`Reach::split`] makes more of them. The
+//! implementation is the ruled form of `crossbeam_deque`.
 //!
 //! # What the layer above may use
 //!
-//! A contract sees a hand as its deque, its puts in order, and the places and items that it took; a place is the number
-//! of a put, counted from 0. It sees a reach as its deque, what it took, and what the reaches that it took in had taken
-//! (`specs/Ends.antt`). So each call says what it did to these lists. Nothing else is known of a deque that others use.
+//! In contracts a hand has its deque, the items that it added in order, and the places and items that it took. A place is the
+//! number of an added item, counted from 0. A reach has its deque, what it took, and what the reaches that it joined had taken
+//! (`specs/Ends.antt`). Each call says how it changes these lists. Nothing else is known of a deque that others use.
 //!
 //! # The rule
 //!
-//! Between any two steps on a deque, its queue and the views of all its ends are in order (`specs/Rule.antt`): the
-//! queue holds the puts from some place on, every place before it was taken once by one end, and what was taken is the
-//! put of its place. [`each_item_once`] and [`each_place_taken_once`] say what follows: the items that were taken and
-//! those in the queue are the puts, each once, and no place has two takers. What a step tells the end that makes it
-//! stands in `specs/Steps.antt`, and `specs/Laws.antt` has the two laws.
+//! Between any two steps on a deque, its queue and the views of all its ends are in order (`specs/Rule.antt`). The queue has
+//! the added items from some place on, every place before it was taken once by one end, and a taken item is the one that was added
+//! at its place. [`each_item_once`] and [`each_place_taken_once`] state what follows: the taken items and those in the queue are the
+//! added ones, each once, and no place has two takers. `specs/Steps.antt` defines what an end learns from its own step, and
+//! `specs/Laws.antt` the two laws.
 //!
-//! A reach has a pass, the token of an end, and keeps the passes of the reaches that it took in. Their views stay what
-//! they were, so no step on the deque is needed to join two reaches. Later takes go to its own pass, and come from
-//! places behind all that this pass took.
+//! A pass is the token of an end. A reach has its own, and keeps the passes of the reaches that it joined. Their views stay, so
+//! joining two reaches needs no step on the deque. Later takes use its own pass, at places after all that this pass took.
 //!
 //! # What no clause says
 //!
-//! That a steal comes to an end while other threads go on stealing; that two threads ran; that memory is there. With no
-//! other thread, a steal gives the item that is there, which the tests show. One test has two threads. A `None` comes
-//! with a state that follows the rule, has an empty queue, and has an end that did just what this one did: that this
-//! state was that of this deque during the call is what the ruled deque keeps, and the tests show that an item that is
-//! there is found.
+//! No clause says that a steal ends while other threads go on stealing, that two threads run, or that memory is there. Without
+//! another thread, a steal returns the item that is there, which the tests show. One test has two threads.
+//!
+//! A `None` comes with a state that follows the rule and has an empty queue, in which an end did just what this one did. The ruled
+//! deque keeps that this was the state of this deque during the call. The tests show that an item that is there is found.
 #![tactic(auto)]
 
 mod hand;

@@ -4,11 +4,10 @@ ghost use Rattle.std.specs.Prelude.{◌≡◌, IfOk};
 use crate::view::EndPass;
 use std::alloc::{AllocError, Global};
 
-/// The pass of a reach, with those of the reaches that it took in, so that what they took stays known.
+/// The pass of a reach, with those of the reaches that it joined, so that what they took stays known.
 ///
-/// A pass has no bytes. A reach that is taken in hangs its passes below those of the other, beside the ones that hang
-/// there, so joining moves two pointers and takes no memory. Joins thus chain the boxes, and dropping a reach recurses
-/// down them: at most one level for each join that went into it.
+/// A pass has no bytes. A join links the passes of the other reach into this tree: it moves two pointers and takes no memory. So
+/// joins make chains of boxes. Dropping a reach recurses along them: at most one level for each join that led to it.
 #[derive(Drop)]
 pub struct Passes<T> {
     pub own: EndPass<T>,
@@ -19,7 +18,7 @@ pub struct Passes<T> {
 impl<T: Drop> Passes<T> {
     ghost use Rattle.ticket_deque.specs.declared.passes.Passes.{out-Passes};
 
-    /// The tree of a reach that took no other in.
+    /// Returns the tree of a reach that joined no other.
     pub fn alone(alloc: Global, own: EndPass<T>) -> Result<Box<Passes<T>>, AllocError>
         ensures { IfOk result (λ b. ((out-Passes T b.value).own ≡ own) × ((out-Passes T b.value).joined ≡ None) × ((out-Passes T b.value).next ≡ None)) }
     {

@@ -1,4 +1,4 @@
-// A thief's end.
+// A thief's end of a deque.
 ghost use Rattle.std.specs.Prelude.{◌≡◌, [], ◌++◌, IfOk, IfSome, IfNone};
 ghost use Rattle.crossbeam_deque.specs.Handles.{view, IsPassOf, SamePass, stealer_deque, stealer_flavor};
 ghost use Rattle.ticket_deque.specs.Steps.{TakesFirst, WasEmpty};
@@ -15,8 +15,8 @@ type Thief<T> = Stealer<T, Global, View<T>, InOrder>;
 
 /// A thief's end of a deque: it takes items at the front, in any thread.
 ///
-/// Contracts see it as `ReachState`: its deque, the places and items that it took, and those that the reaches which it
-/// took in had taken.
+/// Contracts see it as `ReachState`: its deque, the places and items that it took, and those that the reaches which it joined had
+/// taken.
 #[derive(Drop)]
 pub struct Reach<T> {
     stealer: Thief<T>,
@@ -36,7 +36,7 @@ impl<T> Model for Reach<T> {
 }
 
 impl<T: Drop> Reach<T> {
-    /// A reach of the stealer's deque that has taken nothing.
+    /// Returns a reach of the stealer's deque that has taken nothing.
     pub(crate) fn of(alloc: Global, stealer: Thief<T>) -> Result<Reach<T>, AllocError>
         requires { stealer_flavor stealer ≡ 0 }
         ensures { IfOk result (λ reach. (reach.deque ≡ (stealer_deque stealer).0) × (reach.taken ≡ []) × (reach.joined ≡ [])) }
@@ -47,7 +47,7 @@ impl<T: Drop> Reach<T> {
 
     /// Takes the first item.
     ///
-    /// `None` only where the deque was empty at a step of this call. Where another thread was first, it tries again.
+    /// Returns `None` only where the deque was empty at some moment of this call. Where another thread was first, it tries again.
     pub fn steal<R: Wait>(&mut self, rt: &R) -> Option<T>
         ensures some { IfSome result (ReachTakes self.old self.new) }
         ensures none { IfNone result (ReachFindsNone self.old self.new) }
@@ -55,9 +55,9 @@ impl<T: Drop> Reach<T> {
         steal_first(rt, &self.stealer, &mut self.passes.own)
     }
 
-    /// A new reach of the same deque, which has taken nothing.
+    /// Returns a new reach of the same deque, which has taken nothing.
     ///
-    /// `AllocError` where there is no memory for it.
+    /// Fails with `AllocError` where there is no memory for it.
     pub fn split(&mut self, alloc: Global) -> Result<Reach<T>, AllocError>
         ensures same { self.new ≡ self.old }
         ensures new { IfOk result (λ reach. (reach.deque ≡ self.old.deque) × (reach.taken ≡ []) × (reach.joined ≡ [])) }
@@ -65,7 +65,7 @@ impl<T: Drop> Reach<T> {
         Reach::of(alloc, self.stealer.clone()?)
     }
 
-    /// Takes another reach of the same deque in: this one answers for what both took. It needs no memory.
+    /// Joins another reach of the same deque: this one then has what both took. It takes no memory.
     pub fn join(&mut self, other: Reach<T>)
         requires { other.deque ≡ self.old.deque }
         ensures { self.new ≡ record self.old { joined = self.old.joined ++ entries_of other } }

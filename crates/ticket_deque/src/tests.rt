@@ -38,7 +38,7 @@ fn more_than_64_items_fit(rt: HostRuntime) -> Result<(), Fail> {
     Ok(())
 }
 
-// Puts all items, takes now and then, and at last takes until none is left. It keeps an item that was refused.
+// Adds all items, takes one now and then, and at last takes until none is left. It keeps an item that was refused.
 fn work<R: Wait>(rt: &R, mut hand: Hand<u64>, left: &AtomicU64, mut got: Vec<u64>) -> Vec<u64> {
     for item in 0..ALL {
         if let Err(back) = hand.put(item) {

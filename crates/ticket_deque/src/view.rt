@@ -1,14 +1,14 @@
-// What the proofs keep of each end, and the rule that ties the ends to the queue.
+// The views of the ends in proofs, and the rule that relates the ends to the queue.
 use crossbeam_deque::Pass;
 use crossbeam_deque::protocol::{Outcome, Protocol};
 use std::alloc::Global;
 use std::collections::LinkedList;
 
-/// What one end of a deque has done. It is there for the proofs alone: no value of it is made.
+/// What one end of a deque has done. It exists only in proofs: no value of it is made.
 pub enum View<T> {
-    /// The owner's end, a hand: what it put, in order, and the places and items that it took.
+    /// The owner's end, a hand: the items that it added, in order, and the places and items that it took.
     Owner(LinkedList<T>, LinkedList<(u64, T)>),
-    /// A thief's end, as a reach has: the places and items that it took.
+    /// A thief's end, of a reach: the places and items that it took.
     Thief(LinkedList<(u64, T)>),
 }
 
@@ -27,7 +27,7 @@ impl<T> Protocol<T, View<T>> for InOrder {
     ghost guest = { Thief [] };
 }
 
-/// What a put tells the owner.
+/// The effect of an added item on the owner's view.
 pub struct Put;
 
 impl<T> Outcome<T, View<T>> for Put {
@@ -37,7 +37,7 @@ impl<T> Outcome<T, View<T>> for Put {
     ghost then = { λ v xs w. w ≡ after_put v xs };
 }
 
-/// What a take tells the end that takes.
+/// The effect of a take on the view of the end that takes.
 pub struct Take;
 
 impl<T> Outcome<T, View<T>> for Take {
@@ -48,5 +48,5 @@ impl<T> Outcome<T, View<T>> for Take {
     ghost empty = { WasEmpty };
 }
 
-/// An end's token, which has no bytes.
+/// The token of an end, which has no bytes.
 pub type EndPass<T> = Pass<T, View<T>, Global>;

@@ -1,4 +1,4 @@
--- An answer to the step that is wanted of an instance: it tells what this step gives.
+-- An answer to the required step of an instance has the result of this step.
 use Rattle.std.proofs.Common.{◌≡◌, ◌∙◌, ℕ, true, ℤ, List, [], length, Some, Result, Ok, Err, refl, sym, ap, subst}
 use Rattle.std.proofs.lemmas.List.{get_or-set_same}
 use Rattle.std.proofs.lemmas.Option.{slice_get_within, get_or_from_slice_get, same_Some}
@@ -24,7 +24,7 @@ use Rattle.unit_vm.proofs.ValidCodeReadBack.{reads_back}
 use Rattle.unit_vm.specs.Valid.{HasFacts}
 use Rattle.unit_vm.specs.declared.program.CodeFacts.{CodeFacts}
 
--- ---- A unit that is given what its step gave has stepped
+-- ---- A unit with the state of its step's result has made its step
 
 moved_held : (fleet : Fleet) (instance : ℕ) (state unit : List ℤ) → slice_get fleet.states instance ≡ Some unit
     → slice_index_or (with_state fleet instance state).states instance [] ≡ state
@@ -49,9 +49,9 @@ made_so fleet instance (Ok moved) unit there =
     ap (λ now. Ok (record { state = now; accepted = moved.accepted })) (moved_held fleet instance moved.state unit there)
 made_so fleet instance (Err fault) unit there = refl
 
--- ---- What the answer tells
+-- ---- The contents of the answer
 
--- An answer with the wanted key is to the step of the instance.
+-- An answer with the required key is an answer to the step of the instance.
 pub answer_to : (r : RunState) (instance : ℕ) (one : Answered) (want : Want) (facts : CodeFacts) → IsWantOf r instance want → one.key ≡ key_of want
     → HasFacts want.image.now.value.program facts → IsAnswerTo r instance one
 answer_to r instance one want facts wanted same valid =
@@ -61,7 +61,7 @@ answer_to r instance one want facts wanted same valid =
           wanted.image.computes;
     })
 
--- What a step gives by its component, by the meaning of its key.
+-- The result of a step by its component, from the meaning of its key.
 step_by : (r : Inside) (instance : ℕ) (one : Answered) → IsProven one → (to : IsAnswerTo (run_state r) instance one)
     → step_of to.key.member.component one.key.state one.key.inputs one.key.time one.key.step ≡ one.answer
 step_by r instance one proven to =
@@ -92,7 +92,7 @@ module _ (r : Inside) (is : IsRun r) (seat : Seat) (instance : ℕ)
   step_is =
       found.fits.clock.step ∙ ap (λ (m : Member). local_step m.factor r.point.t (step_length r.phase)) member_is ∙ sym to.key.step
 
-  -- The unit's step gives what the answer tells.
+  -- The result of the unit's step is that of the answer.
   pub gives : ForUnit r.units instance (λ member state inputs. step_of member.component state inputs seat.time seat.step ≡ one.answer)
   gives member state inputs member_at state_at inputs_at =
       let same_member : member ≡ to.key.member =
@@ -107,7 +107,7 @@ module _ (r : Inside) (is : IsRun r) (seat : Seat) (instance : ℕ)
       ∙ ap (λ step. step_of to.key.member.component one.key.state one.key.inputs one.key.time step) step_is
       ∙ step_by r instance one proven to
 
-  -- A state that it moved to has as many words as the unit holds.
+  -- The state after the step has as many words as the state of the unit.
   as_long_by : (answer : Result Moved Fault) → IfOk answer (λ moved. length moved.state ≡ length one.key.state)
       → IfOk answer (λ moved. length moved.state ≡ length (slice_index_or r.units.states instance []))
   as_long_by (Ok moved) long_as =
@@ -117,7 +117,7 @@ module _ (r : Inside) (is : IsRun r) (seat : Seat) (instance : ℕ)
   pub as_long : IfOk one.answer (λ moved. length moved.state ≡ length (slice_index_or r.units.states instance []))
   as_long = as_long_by one.answer proven.each_state
 
-  -- With what an answer tells, the unit has made its step, and this gave what the answer tells.
+  -- With the state of an answer, the unit has made its step, and its result is that of the answer.
   module _ (told : Result Moved Fault) (same : told ≡ one.answer) (units : Fleet) (units_are : units ≡ with_step r.units instance told) where
     now_units : units ≡ with_step r.units instance one.answer
     now_units = units_are ∙ ap (with_step r.units instance) same

@@ -1,4 +1,4 @@
--- The phase of a stand that a run comes to.
+-- The phase of a stand at which a run arrives.
 use Rattle.std.proofs.Common.{◌≡◌, ◌∙◌, ℕ, suc, ◌==◌, Bool, true, false, ℤ, List, [], ◌∷◌, map, zip, Option, Some, None, Result, refl, ap}
 use Rattle.std.specs.Prelude.{is_none, if◌then◌else◌}
 use Rattle.std.specs.List.{filter_map, cons_option}
@@ -16,7 +16,7 @@ use Rattle.unit_tree.specs.Trace.{Stand}
 use Rattle.unit_tree.specs.declared.ending.Ending.{Ending}
 use Rattle.unit_tree.specs.declared.ending.Ending.TheVariants.{Completed, RowBudget}
 
--- ---- What is asked of all members
+-- ---- The limits of all members
 
 told_same : (t : ℕ) (ports : Ports) (members : List Member) (states : List (List ℤ))
     → map (max_told t) (zip members (zip states (map (inputs_at ports) members))) ≡ map (max_at t ports) (zip members states)
@@ -69,7 +69,7 @@ phase_by run at ports inputs None same =
     (tried_is run at ports)
     ∙ in_turn None (at.point.t == run.stop) (suc at.number == run.row_budget) (max_end run at ports) (proposed run at ports)
 
--- The phase that is begun is the one that the stand asks for.
+-- The phase that begins is the one that follows from the stand.
 pub phase_is : (run : Composition) (at : Position) (ports : Ports) (inputs : List (List ℤ)) (fault : Option Ending) → fault ≡ port_fault run at.states ports
     → (is_none fault ≡ true → inputs ≡ all_inputs run ports)
     → ended_or fault (phase_there run at.point at.number at.states inputs) ≡ phase_at run (record { at = at; ports = ports })
@@ -77,7 +77,7 @@ phase_is run at ports inputs fault is same =
     phase_by run at ports inputs fault same
     ∙ ap (λ one. phase_or (first_some (one ∷ stop_end run at ∷ row_end run at ∷ max_end run at ports ∷ [])) (proposed run at ports)) is
 
--- ---- That it is right
+-- ---- The result is right
 
 first_of_seven : (a b c d e f g : Option Ending) (ending : Ending) → first_some (a ∷ b ∷ c ∷ d ∷ []) ≡ Some ending
     → first_some (a ∷ b ∷ c ∷ d ∷ e ∷ f ∷ g ∷ []) ≡ Some ending

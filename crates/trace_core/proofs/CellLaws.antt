@@ -22,7 +22,7 @@ use Rattle.super_time.specs.LocalTime.{local_time, local_step}
 counted_more : {A : Type 0} (passes : A → Bool) (x : A) (xs : List A) → count_by passes (x ∷ xs) ≡ cond (passes x) 1 0 + count_by passes xs
 counted_more passes x xs = sum_by-cons (λ y. cond (passes y) 1 0) x xs
 
--- The member is stepped in a step of h from t.
+-- The member makes a step in a step of h from t.
 abbrev is_stepped : ℕ → ℕ → Member → Bool
 is_stepped t h member = not (is_held member.factor t h)
 
@@ -59,7 +59,7 @@ steps_are t h ports (member ∷ members) (state ∷ states) long =
     ∙ ap (λ count. cond (is_stepped t h member) 1 0 + count) (steps_are t h ports members states (omega (arith, long)))
     ∙ sym (counted_more (is_stepped t h) member members)
 
--- Of full cells as many are filled as steps are made.
+-- In full cells, as many are filled as steps are made.
 pub full_are_steps : (run : Composition) (at : Position) (ports : Ports) (h : ℕ) (cells : List Cell) → length at.states ≡ length run.members
     → FitCells run at.point.t h cells → AreCellsFull cells → count_by is_filled cells ≡ steps_there (steps_by run at ports h)
 full_are_steps run at ports h cells long fit full =

@@ -1,4 +1,4 @@
--- Where a run goes from a phase whose cells are full, told of its stand: along the successor.
+-- Where a run goes from a phase whose cells are full is where the successor leads from its stand.
 use Rattle.std.proofs.Common.{◌≡◌, ◌∙◌, ℕ, suc, ◌+◌, ◌==◌, ◌≤◌, ◌&&◌, Bool, true, false, ℤ, List, map, zip, Option, Some, None, refl, sym, ap, subst, arith}
 use Rattle.std.proofs.lemmas.Bool.Decides.{nat_tests}
 use Rattle.std.specs.Prelude.{nat_lt, if◌then◌else◌}
@@ -38,7 +38,7 @@ LeadsFromTrial run stand h (Redo least) = IsDue run stand × (least ≡ agreed r
 LeadsFromTrial run stand h (On point) = (IsDue run stand → ⊥) × LeadsOn run stand h point
 LeadsFromTrial run stand h (End ending) = (IsDue run stand → ⊥) × (successor run stand.at stand.ports ≡ ends ending)
 
--- From a step that was made anew.
+-- From a redo.
 abbrev pub LeadsFromRedo : Composition → Stand → ℕ → Course → Type 0
 LeadsFromRedo run stand h (Redo least) = ⊥
 LeadsFromRedo run stand h (On point) = LeadsOn run stand h point
@@ -149,7 +149,7 @@ module _ (run : Composition) (stand : Stand) (going : IsGoing run stand) where
         → LeadsFromTrial run stand h (course_of_trial run stand.at.point h seats)
     trial_leads is members words = trial_by (first_told slot_end seats) refl is members words
 
-    -- The units hold the states of the position that the run goes on to.
+    -- The units have the states of the position to which the run goes.
     pub leads_to : (point : Point) → LeadsOn run stand h point
         → ◌≡◌ {A = Position} (record { point = point; states = units; number = stand.at.number + 1 }) (after run stand.at stand.ports)
     leads_to point leads =
@@ -160,7 +160,7 @@ module _ (run : Composition) (stand : Stand) (going : IsGoing run stand) where
         position_is point (after run stand.at stand.ports).point units (after run stand.at stand.ports).states (stand.at.number + 1)
         (suc stand.at.number) leads.to held next
 
-    -- ---- From a step that was made anew
+    -- ---- From a redo
 
     redone_by : (spent : Bool) → is_spent run stand h ≡ spent → h ≡ agreed run stand.at stand.ports → trial_end run stand.at stand.ports ≡ None
         → is_redone run stand.at stand.ports ≡ true → redo_end_by run stand.at stand.ports (agreed run stand.at stand.ports) ≡ None

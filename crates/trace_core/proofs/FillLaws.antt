@@ -1,4 +1,4 @@
--- The seat of one instance: what is wanted of it, and what a run is where its step was made.
+-- The seat of one instance: its required step, and the run after this step was made.
 use Rattle.std.proofs.Common.{◌≡◌, ◌∙◌, ℕ, zero, suc, ◌+◌, ◌<◌, Bool, true, false, cond, ℤ, List, [], ◌∷◌, map, zip, length, get_or, set, Some, None}
 use Rattle.std.proofs.Common.{Result, Ok, Err, Vec, Global, refl, sym, ap, subst, arith, length-set}
 use Rattle.std.proofs.lemmas.Option.{slice_get_within, get_or_from_slice_get, slice_get-map, same_Some, none-some}
@@ -35,7 +35,7 @@ use Rattle.list_laws.proofs.Pairs.{zip_there}
 
 -- ---- One seat among those of a phase
 
--- The seat of an instance, with its member, its state and what its unit holds.
+-- The seat of an instance, with its member, its state and the state of its unit.
 pub record SeatAt (t h : ℕ) (ports : Ports) (members : List Member) (states units : List (List ℤ)) (seat : Seat) (instance : ℕ) : Type 0 where
   pub member : Member
   pub state : List ℤ
@@ -45,7 +45,7 @@ pub record SeatAt (t h : ℕ) (ports : Ports) (members : List Member) (states un
   pub unit_is : slice_get units instance ≡ Some unit
   pub fits : IsSeat t h ports (member, state) (unit, seat)
 
--- Lengths of four lists behind their first elements.
+-- Lengths of four lists after their first elements.
 abbrev later : (members : List Member) (states units : List (List ℤ)) (seats : List Seat) (member : Member) (state unit : List ℤ) (seat : Seat)
     → AreOfOneLength (member ∷ members) (state ∷ states) (unit ∷ units) (seat ∷ seats) → AreOfOneLength members states units seats
 later members states units seats member state unit seat long =
@@ -80,7 +80,7 @@ seat_at t h ports (member ∷ members) (state ∷ states) (unit ∷ units) (firs
       fits = behind.fits;
     }
 
--- What one unit holds and its seat are changed.
+-- The state of one unit and its seat change.
 pub seats_set : (t h : ℕ) (ports : Ports) (members : List Member) (states units : List (List ℤ)) (seats : List Seat) (unit : List ℤ) (new : Seat) (instance : ℕ)
     → AreOfOneLength members states units seats → AreSeats t h ports (zip members states) units seats
     → ((member : Member) (state : List ℤ) → slice_get members instance ≡ Some member → slice_get states instance ≡ Some state
@@ -99,7 +99,7 @@ seats_set t h ports (member ∷ members) (state ∷ states) (held ∷ units) (fi
 
 -- ---- A step that was made
 
--- With whether the member is held, and what its step gives.
+-- By whether the member is held, and by the result of its step.
 took_by : (held : Bool) (outcome : Result Moved Fault) (unit state now : List ℤ) (accepted : ℕ) → SlotIs (cond held None (Some outcome)) slot.Empty unit state
     → outcome ≡ Ok (record { state = now; accepted = accepted }) → SlotIs (cond held None (Some outcome)) (slot.Took accepted) now state
 took_by true outcome unit state now accepted empty is = absurd empty
@@ -120,7 +120,7 @@ given_by : (held : Bool) (outcome result : Result Moved Fault) (unit state : Lis
 given_by true outcome result unit state empty is = absurd empty
 given_by false outcome result unit state empty is = ap Some is
 
--- What a step gave, by the length that it accepted and the state that its unit has then, or its fault.
+-- The result of a step: the length that it accepted and the state that its unit has then, or its fault.
 abbrev pub step_made : Result ℕ Fault → List ℤ → Result Moved Fault
 step_made (Ok accepted) state = Ok (record { state = state; accepted = accepted })
 step_made (Err fault) state = Err fault
@@ -169,7 +169,7 @@ module _ (t h : ℕ) (run : Composition) (ports : Ports) (states : List (List �
   given_here (Err fault) new steps =
       given_by (is_held here.member.factor t h) (outcome here.member here.state) (Err fault) here.unit here.state slot_empty (of_member (Err fault) steps.0)
 
-  -- What the step of the instance gives.
+  -- The result of the instance's step.
   pub step_given : (made : Result ℕ Fault) (new : Fleet) → Steps fleet instance seat.time seat.step made new
       → option_and_then (step_at t h ports) (slice_get (zip run.members states) instance) ≡ Some (step_made made (slice_index_or new.states instance []))
   step_given made new steps =
@@ -220,7 +220,7 @@ step_keeps old new instance time step (Err fault) steps = (ap (λ (f : Fleet). f
 abbrev pub stepped : Inside → Fleet → Vec Seat Global → ℕ → ℕ → Inside
 stepped r units seats found own = record r { units = units; seats = seats; found = found; own = own }
 
--- ---- Which cells are wanted
+-- ---- Which steps are required
 
 empty_there : (seats : List Seat) (states : List (List ℤ)) (seat : Seat) (instance : ℕ) → slice_get seats instance ≡ Some seat → seat.slot ≡ slot.Empty
     → slice_get (cells_in seats states) instance ≡ Some Empty
@@ -275,7 +275,7 @@ empty_seen (Redo h) seats states instance seat is there =
     (same_Some (cell_in seat.slot (get_or states instance [])) Empty (sym (cell_there seats states instance seat is) ∙ there))
 empty_seen (Ended ending) seats states instance seat is there = absurd (cc)
 
--- A step is wanted exactly where the slot is empty.
+-- A step is required exactly where the slot is empty.
 pub wanted_exactly : (r : Inside) (seen : RunState) (instance : ℕ) (seat : Seat) (empty : Bool) → run_state r ≡ seen → is_ended r.phase ≡ false
     → slice_get r.seats.items instance ≡ Some seat
     → empty ≡ is_empty seat.slot → (empty ≡ true → IsWanted seen instance) × (IsWanted seen instance → empty ≡ true)
@@ -284,7 +284,7 @@ wanted_exactly r seen instance seat empty seen_is going is told = (
   λ wanted. told ∙ empty_seen r.phase r.seats.items r.units.states instance seat is (subst (λ (s : RunState). IsWanted s instance) (sym seen_is) wanted),
 )
 
--- None is wanted where there is no seat.
+-- None is required where there is no seat.
 pub none_wanted : (r : Inside) (seen : RunState) (instance : ℕ) → run_state r ≡ seen → slice_get r.seats.items instance ≡ None
     → (false ≡ true → IsWanted seen instance) × (IsWanted seen instance → false ≡ true)
 none_wanted r seen instance seen_is none = (
@@ -359,7 +359,7 @@ module _ (r : Inside) (is : IsRun r) (seat : Seat) (instance : ℕ)
   pub the_seat : SeatAt r.point.t (step_length r.phase) stand.ports run.members stand.at.states r.units.states seat instance
   the_seat = seat_by r.phase refl is_going
 
-  -- Its unit still holds the state where the run stands.
+  -- Its unit still has the state at the run's stand.
   pub holds_state : the_seat.unit ≡ the_seat.state
   holds_state =
       held_by (is_held the_seat.member.factor r.point.t (step_length r.phase))
@@ -388,7 +388,7 @@ module _ (r : Inside) (is : IsRun r) (seat : Seat) (instance : ℕ)
     states_same : saved r.snaps seats.items ≡ saved r.snaps r.seats.items
     states_same = saved_kept r.snaps r.seats.items seats.items ids_same
 
-    -- What the step gave.
+    -- The result of the step.
     abbrev pub step : Result Moved Fault
     step = step_made made (slice_index_or units.states instance [])
 
@@ -454,7 +454,7 @@ module _ (r : Inside) (is : IsRun r) (seat : Seat) (instance : ℕ)
         (fit_as r is (Redo h) same) seat_is slot_is_empty tied_run fed made units steps
     given_in (Ended ending) same going = absurd (cc)
 
-    -- It is what the step of the instance gives.
+    -- It is the result of the instance's step.
     pub step_is : step_in (run_state r) instance ≡ Some step
     step_is = given_in r.phase refl is_going
 
@@ -470,7 +470,7 @@ module _ (r : Inside) (is : IsRun r) (seat : Seat) (instance : ℕ)
           ∙ ap (λ count. filled (run_state r) instance step r.found count) own_is;
     })
 
-    -- And it was found, where one more was.
+    -- Or it was found, where one more was.
     pub is_found : (seen : RunState) → run_state r ≡ seen → found ≡ suc r.found → own ≡ r.own
         → run_state (stepped r units seats found own) ≡ with_found seen instance step
     is_found seen seen_is found_is own_is =

@@ -1,4 +1,4 @@
--- Positions that are told by a row, a point and words.
+-- Positions that are given by a row, a point and words.
 use Rattle.std.proofs.Common.{◌≡◌, ◌∙◌, ℕ, ◌<◌, ◌≤◌, ℤ, List, length, refl, ap, sym, subst}
 use Rattle.super_time.specs.declared.point.Point.{Point}
 use Rattle.trace_core.specs.Arriving.{position_with}
@@ -12,7 +12,7 @@ use Rattle.unit_tree.specs.Compositions.{Composition}
 use Rattle.unit_tree.specs.Successor.{Position}
 use Rattle.unit_tree.specs.Trace.{AreWordsOf}
 
--- where a position fits, a run may be opened
+-- Where a position fits, a run may be opened.
 pub may_be_opened : (run : Composition) (row : ℕ) (point : Point) (words : List ℤ) (at : Position) → FitsPosition run row point words at
     → MayOpen run row point words
 may_be_opened run row point words at fits = record {
@@ -22,7 +22,7 @@ may_be_opened run row point words at fits = record {
   each = subst (AreWordsOf (states_in run.members)) fits.states (joined_words run.members at.states fits.has_words);
 }
 
--- where it may, the position with the words as states fits
+-- Where a run may be opened, the position with the words as states fits.
 pub fits_parted : (run : Composition) (row : ℕ) (point : Point) (words : List ℤ) → MayOpen run row point words
     → FitsPosition run row point words (position_with point (parted run.members words) row)
 fits_parted run row point words may = record {
@@ -34,7 +34,7 @@ fits_parted run row point words may = record {
   in_rows = may.rows;
 }
 
--- so it is with units that were given the words
+-- This holds for units to which the words were restored.
 pub fits_restored : (plan lent shared : Planned) (row : ℕ) (point : Point) (words : List ℤ) (units restored : Fleet) → MayOpen lent.run row point words
     → lent ≡ plan → units.plan ≡ shared → shared ≡ plan → restored ≡ with_words units words
     → FitsPosition plan.run row point words (position_with point restored.states row)
@@ -44,7 +44,7 @@ fits_restored plan lent shared row point words units restored may lent_is tied s
     subst (λ all. FitsPosition plan.run row point words (position_with point all row)) (sym states)
     (fits_parted plan.run row point words (subst (λ (p : Planned). MayOpen p.run row point words) lent_is may))
 
--- the words are as many as the units' states
+-- There are as many words as the units have states.
 pub words_for : (plan lent shared : Planned) (row : ℕ) (point : Point) (words : List ℤ) (units : Fleet) → MayOpen lent.run row point words
     → lent ≡ plan → units.plan ≡ shared → shared ≡ plan → length words ≡ length (states_in units.plan.run.members)
 words_for plan lent shared row point words units may lent_is tied shared_is =

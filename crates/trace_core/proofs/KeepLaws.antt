@@ -1,4 +1,4 @@
--- What a run keeps where it comes to a stand, where its step is made anew, and where it ends.
+-- The invariant of a run where it arrives at a stand, at a redo, and where it ends.
 use Rattle.std.proofs.Common.{◌≡◌, ◌∙◌, ℕ, Bool, true, false, ℤ, List, [], map, length, Option, Some, None, Vec, Global, refl, sym, ap, subst}
 use Rattle.std.specs.Prelude.{is_none}
 use Rattle.std.specs.List.{list_all}
@@ -43,7 +43,7 @@ fit_in run stand (Ended ending) units old new long same begun = tt
 pub fit_as : (r : Inside) → IsRun r → (phase : Phase) → r.phase ≡ phase → SeatsFit r.plan.value.run (stand_of r) phase r.units.states r.seats.items
 fit_as r is phase same = subst (λ one. SeatsFit r.plan.value.run (stand_of r) one r.units.states r.seats.items) same is.fit
 
--- ---- Where it comes to a stand
+-- ---- Arriving at a stand
 
 -- The seats were committed, the ports solved for the states of the units, and the phase begun.
 pub record Arrival (r : Inside) (fault : Option Ending) (old : List Seat) : Type 0 where
@@ -128,7 +128,7 @@ module _ (r : Inside) (fault : Option Ending) (old : List Seat) (come : Arrival 
     fit = fit_in run (stand_of r) r.phase r.units.states old r.seats.items (one_state run (stand_of r).at stands.words) (sym saved_states) come.begun;
   }
 
--- ---- Where the step is made anew
+-- ---- At a redo
 
 abbrev pub anew : Inside → Fleet → Vec Seat Global → Vec ℕ Global → ℕ → Inside
 anew old units seats replies h = record old { units = units; seats = seats; phase = Redo h; replies = replies }

@@ -1,4 +1,4 @@
--- Lists of words that are as long, one by one, since each is as long as a member asks.
+-- Lists of words of equal lengths, one by one, since each has the length of its member.
 use Rattle.std.proofs.Common.{◌≡◌, ◌∙◌, ℤ, List, [], ◌∷◌, length, map, sym, ap, refl}
 use Rattle.std.proofs.lemmas.Slice.Zip.{AllZip-long}
 use Rattle.std.specs.List.{AllZip}

@@ -1,5 +1,5 @@
--- Loops over all instances: what is told of one after the other, lists that are changed element by element, and limits and
--- snapshots that are.
+-- Loops over all instances: results that are found one after the other, lists that are changed element by element, and limits and
+-- snapshots.
 use Rattle.std.proofs.Common.{◌≡◌, ◌∙◌, Bool, true, false, nat_eq, ℕ, zero, suc, ◌+◌, ◌<◌, ◌≤◌, ℤ, List, [], ◌∷◌, ◌++◌, length, map, take, drop, get_or, set}
 use Rattle.std.proofs.Common.{Option, Some, None, Result, Ok, Err, refl, ap, sym, subst, arith, append_assoc, append-nil, length-set, get_or-set_same}
 use Rattle.std.proofs.Common.{get_or-set_other}
@@ -32,10 +32,10 @@ use Rattle.list_laws.proofs.Members.{at_place}
 use Rattle.list_laws.proofs.Pairs.{zip_at}
 use Rattle.list_laws.proofs.Options.{none_told}
 
--- ---- An end that is told of one item after the other
+-- ---- An end that is found item by item
 
 module _ {A : Type 0} (tell : ℕ × A → Option Ending) (items : List A) where
-  -- None of the items before a place tells an end: the first one is that of those from there on.
+  -- No item before a place has an end: the first end is that of the items from there on.
   abbrev pub ToldFrom : ℕ → Type 0
   ToldFrom place = first_some (map tell (enumerate_from place (drop place items))) ≡ first_told tell items
 
@@ -61,7 +61,7 @@ module _ {A : Type 0} (tell : ℕ × A → Option Ending) (items : List A) where
 
 -- ---- A list that is made element by element
 
--- So many elements are made, and the others are left to be.
+-- So many elements are made, and the others are still to be made.
 abbrev pub MadeSoFar : {A : Type 0} → List A → ℕ → List A → List A → Type 0
 MadeSoFar made count rest whole = take count made ++ rest ≡ whole
 
@@ -74,7 +74,7 @@ one_made made count x rest left whole within is so_far =
 -- ---- A list that is changed element by element
 
 module _ {A : Type 0} (R : ℕ → A → A → Type 0) where
-  -- The elements before a place are changed, and those from there on are as they were.
+  -- The elements before a place are changed, and the others are as they were.
   pub record Turned (old now : List A) (place : ℕ) : Type 0 where
     pub as_many : length now ≡ length old
     pub changed : (k : ℕ) (default : A) → k < place → k < length old → R k (get_or old k default) (get_or now k default)
@@ -106,7 +106,7 @@ zip_of S (member ∷ members) (one ∷ old) (other ∷ new) many as_many each = 
   zip_of S members old new (omega (arith, many)) (omega (arith, as_many)) (λ k default within. each (suc k) default (omega (arith, within))),
 )
 
--- ---- Lists with an element each
+-- ---- Lists with one element for each
 
 pub zip_read : {A B : Type 0} (R : A → B → Type 0) (xs : List A) (ys : List B) (k : ℕ) (x : A) (y : B) → AllZip R xs ys → k < length xs
     → R (get_or xs k x) (get_or ys k y)
@@ -138,7 +138,7 @@ long_at (one ∷ ones) (other ∷ others) (suc k) same = long_at ones others k (
 pub long_as : (ones others : List (List ℤ)) → AreAsLong ones others → length ones ≡ length others
 long_as ones others same = sym (length-map ones length) ∙ ap length same ∙ length-map others length
 
--- ---- What is asked of all instances
+-- ---- The limits of all instances
 
 told_at : (t : ℕ) (members : List Member) (states inputs : List (List ℤ)) (k : ℕ) (member : Member) (state words : List ℤ) → slice_get members k ≡ Some member
     → slice_get states k ≡ Some state → slice_get inputs k ≡ Some words
@@ -167,7 +167,7 @@ next_limit t (suc k) (first ∷ members) (given ∷ told) member one member_is i
     ≡ cons_option (limit_told member.factor t one) (limits_told t (drop next (first ∷ members)) (drop next (given ∷ told)))) same
     (next_limit t k members told member one member_is is)
 
--- What an instance told, with its member.
+-- The result of an instance, with its member.
 pub record HasTold (t instance factor : ℕ) (members : List Member) (told : List (Result (Option ℕ) Fault)) (one : Result (Option ℕ) Fault) : Type 0 where
   pub member : Member
   pub member_is : slice_get members instance ≡ Some member
@@ -195,7 +195,7 @@ has_told t instance factor run states inputs one have_states have_inputs within 
       told_is = told_at t run.members states inputs instance at.0 state.other fed.other at.1 state.is fed.is ∙ ap Some is;
     }
 
--- Units of a plan are asked at a member's local time.
+-- The limit of a unit of a plan is computed at its member's local time.
 pub unit_told : (t instance factor time : ℕ) (plan : Planned) (fleet now : Fleet) (one : Result (Option ℕ) Fault) → fleet.plan ≡ plan → now ≡ fleet
     → time ≡ local_time factor t → HaveStates fleet.plan.run fleet.states → HaveInputs fleet.plan.run fleet.inputs → instance < length fleet.plan.run.members
     → ForMember plan.run instance (λ member. factor ≡ member.factor)
@@ -211,7 +211,7 @@ unit_told t instance factor time plan fleet now one tied kept time_is have_state
     (λ member state words member_is. gives_then member state words
     (subst (λ (p : Planned). slice_get p.run.members instance ≡ Some member) (sym tied) member_is))
 
--- None of the instances before a place ended the run, and their limits are there.
+-- No instance before a place ended the run, and their limits are known.
 pub record AskedSoFar (t : ℕ) (members : List Member) (told : List (Result (Option ℕ) Fault)) (place count : ℕ) (limits : List ℕ) : Type 0 where
   pub no_end : ToldFrom max_end_of told place
   pub made : MadeSoFar limits count (limits_told t (drop place members) (drop place told)) (limits_told t members told)
@@ -270,14 +270,14 @@ told_many t (member ∷ members) (state ∷ states) (words ∷ inputs) = let few
 
 -- ---- Those that set no limit
 
--- All before a place were asked, or set no limit. Those that wait are those from there on that set one.
+-- The limits of all instances before a place were computed, or they set none. Those that are left are the ones from there on with a limit.
 pub record Asking (t : ℕ) (members : List Member) (told : List (Result (Option ℕ) Fault)) (waiting : List ℕ) (count : ℕ) (limits : List ℕ) : Type 0 where
   pub place : ℕ
   pub within : place ≤ length members
   pub are : waiting ≡ places_from place (map has_max (drop place members))
   pub so_far : AskedSoFar t members told place count limits
 
--- The next one is asked.
+-- The limit of the next one is computed.
 pub record AskedNext (t : ℕ) (members : List Member) (told : List (Result (Option ℕ) Fault)) (instance : ℕ) (waiting : List ℕ) (count : ℕ)
     (limits : List ℕ) : Type 0 where
   pub within : instance < length members
@@ -318,7 +318,7 @@ module _ (t : ℕ) (run : Composition) (states inputs : List (List ℤ)) (have_s
       let here = member_here place member left is in
       next_without t run.members all place count member.factor limits (quiet place member here.0 here.1 no_max) so_far
 
-  -- Those that wait, by whether the first member sets a limit.
+  -- The instances that are left, by whether the first member sets a limit.
   places_by : (place : ℕ) (member : Member) (left : List Member) (so : Bool) → has_max member ≡ so
       → places_from place (map has_max (member ∷ left))
       ≡ (if so then place ∷ places_from (place + 1) (map has_max left) else places_from (place + 1) (map has_max left))
@@ -381,7 +381,7 @@ module _ (t : ℕ) (run : Composition) (states inputs : List (List ℤ)) (have_s
 pub none_asked : (t : ℕ) (members : List Member) (told : List (Result (Option ℕ) Fault)) (limits : List ℕ) → AskedSoFar t members told 0 0 limits
 none_asked t members told limits = record { no_end = refl; made = refl; few = omega arith }
 
--- Of the units of a plan, along the list of those that set a limit.
+-- The limits of the units of a plan, along the list of those that set a limit.
 module _ (t : ℕ) (plan : Planned) (fleet : Fleet) (tied : fleet.plan ≡ plan) (have_states : HaveStates fleet.plan.run fleet.states)
     (have_inputs : HaveInputs fleet.plan.run fleet.inputs) (count : ℕ) (limits : List ℕ) (items : List ℕ) (index : ℕ)
     (asking : Asking t plan.run.members (all_told t plan.run.members fleet.states fleet.inputs) (drop index items) count limits) where
@@ -410,7 +410,7 @@ module _ (t : ℕ) (plan : Planned) (fleet : Fleet) (tied : fleet.plan ≡ plan)
       let past_members = none.1 in omega (arith, many, past_members) in
       all_asked plan.run t none.0 count (all_told t plan.run.members fleet.states fleet.inputs) limits none.1 told_past none.2
 
--- ---- What all seats reply
+-- ---- The replies of all seats
 
 ok_end : (factor t h instance reply : ℕ) (given : Slot) → replied factor t h given ≡ Ok reply → end_in instance given ≡ None
 ok_end factor t h instance reply slot.Held is = refl
@@ -431,7 +431,7 @@ err_end factor t h instance fault slot.Empty is = absurd (cc)
 err_end factor t h instance fault (slot.Took accepted) is = absurd (cc)
 err_end factor t h instance fault (slot.Failed met) is = let same : met ≡ fault = cc in ap (λ some. Some (UnitFault instance call.Step some)) same
 
--- No seat before a place ended the run, and their replies are there.
+-- No seat before a place ended the run, and their replies are known.
 pub record ReadSoFar (t h : ℕ) (members : List Member) (seats : List Seat) (place : ℕ) (replies : List ℕ) : Type 0 where
   pub no_end : ToldFrom slot_end seats place
   pub made : MadeSoFar replies place (map (slot_reply t h) (zip (drop place members) (drop place seats))) (map (slot_reply t h) (zip members seats))
@@ -490,7 +490,7 @@ restored_one saved_states old place words within long is =
     ∙ ap (λ word. (take place saved_states ++ word ∷ []) ++ drop (place + 1) old) is
     ∙ ap (λ front. front ++ drop (place + 1) old) (sym (take_more saved_states place [] within))
 
--- The state that stands where one is to be restored is as long.
+-- The state that is overwritten by a restored one has the same length.
 pub restored_long : (saved_states old : List (List ℤ)) (place : ℕ) → place < length saved_states → AreAsLong saved_states old
     → length (get_or saved_states place []) ≡ length (get_or (take place saved_states ++ drop place old) place [])
 restored_long saved_states old place within long =
@@ -590,7 +590,7 @@ module _ (old_seats seats : List Seat) (inputs : List (List ℤ)) (place : ℕ) 
           ap (λ first. first ∷ map (λ (other : Seat). other.before.items) some) (each 0 seat (omega arith))
           ∙ ap (λ later. one ∷ later) (befores some words (omega (arith, as_many)) (λ k default within. each (suc k) default (omega (arith, within))))
 
--- What is seen of units in the middle of a loop that restores them.
+-- The units in the middle of a loop that restores them, as contracts see them.
 abbrev pub restored_so_far : Fleet → List (List ℤ) → ℕ → Fleet
 restored_so_far fleet states place = record fleet { states = take place states ++ drop place fleet.states }
 

@@ -1,4 +1,4 @@
--- The cells of a run hold what the keys of their steps mean.
+-- The cells of a run have the meanings of the keys of their steps.
 use Rattle.std.proofs.Common.{◌≡◌, ◌∙◌, ℕ, Bool, true, false, ℤ, List, length, Option, Some, None, Result, refl, sym, ap}
 use Rattle.std.proofs.lemmas.List.{length-map}
 use Rattle.std.proofs.lemmas.Option.{same_Some, slice_get-map}

@@ -1,4 +1,4 @@
--- What a run is after it was settled.
+-- A run after it was settled.
 use Rattle.std.proofs.Common.{◌≡◌, ◌∙◌, ℕ, ◌+◌, ◌<◌, Bool, true, false, ℤ, List, [], Option, Vec, Global, refl, sym, ap, subst, inl}
 use Rattle.std.specs.Prelude.{is_none, if◌then◌else◌}
 use Rattle.trace_core.specs.declared.phase.Settle.TheVariants as settle
@@ -79,7 +79,7 @@ module _ (r : Inside) (is : IsRun r) (have : HaveStates r.plan.value.run r.units
     led_on : Led r is have (course.On point)
     led_on = subst (Led r is have) to (led r is have going full)
 
-    -- The number of the next row is within the budget, whatever its ports are.
+    -- The number of the next row is within the budget, for any ports.
     pub next_in_rows : (next : Stand) → next.at ≡ record { point = point; states = r.units.states; number = r.number + 1 } → IsStand run next
         → r.number + 1 < run.row_budget
     next_in_rows next same right =
@@ -119,7 +119,7 @@ module _ (r : Inside) (is : IsRun r) (have : HaveStates r.plan.value.run r.units
       pub next_moves : Moves (run_state r) (run_state next)
       next_moves = record { no_redo = led_on.0; goes = on; is = next_is }
 
--- What settling came to at the next stand, by whether all its ports are known.
+-- The result of settling at the next stand, by whether all its ports are known.
 pub settled_by : (solved : Bool) (old new : RunState) → Moves old new → solved ≡ is_none (port_fault new.plan.run new.stand.at.states new.stand.ports)
     → Settled old new (if solved then settle.Row else settle.Ended)
 settled_by true old new moves is = (moves, none_is (port_fault new.plan.run new.stand.at.states new.stand.ports) (sym is))

@@ -1,4 +1,4 @@
--- Seats and states that are made one by one as a run is opened.
+-- Seats and states that are made one by one when a run is opened.
 use Rattle.std.proofs.Common.{◌≡◌, ◌≢◌, ◌∙◌, ℕ, ◌+◌, ◌<◌, ◌≤◌, Bool, true, false, ℤ, List, [], ◌∷◌, ◌++◌, map, length, take, get_or, Some, None, refl, sym, ap}
 use Rattle.std.proofs.Common.{subst, arith, length-append}
 use Rattle.std.proofs.Math.ListN.{get_or-append}

@@ -1,4 +1,4 @@
--- Words that are given to units in turn, as their states.
+-- Words that become the states of units, in turn.
 use Rattle.std.proofs.Common.{◌≡◌, ◌∙◌, ℕ, ◌+◌, ◌<◌, ◌≤◌, ℤ, List, [], ◌∷◌, ◌++◌, length, take, drop, Some, refl, ap, sym, arith}
 use Rattle.std.proofs.Common.{append_assoc, length-append, length-drop}
 use Rattle.std.proofs.lemmas.List.{get_or_at, set_at}
@@ -15,7 +15,7 @@ use Rattle.list_laws.proofs.Members.{at_seam}
 abbrev IsAsLong : Member → List ℤ → Type 0
 IsAsLong member state = length state ≡ length member.component.unit.states
 
--- The units before a place have their words, and the others wait, with the rest of the words.
+-- The units before a place have their words, and the others are still without them, with the rest of the words.
 pub record Giving (old : Fleet) (words : List ℤ) (now : Fleet) (place : ℕ) (rest : List ℤ) : Type 0 where
   pub given : List (List ℤ)
   pub left : List (List ℤ)
@@ -94,7 +94,7 @@ pub takes : (old : Fleet) (words : List ℤ) (now : Fleet) (place : ℕ) (rest s
 takes old words now place rest state seen within g =
     takes_by old words now place rest state seen within g.given g.left g.waiting g.counted g.is g.as_long g.whole g.enough
 
--- behind the last unit all have their words
+-- After the last unit all have their words.
 all_by : (old : Fleet) (words : List ℤ) (now : Fleet) (place : ℕ) (rest : List ℤ) (given left : List (List ℤ)) (waiting : List Member)
     → length old.plan.run.members ≤ place → length given ≡ place → now ≡ record old { states = given ++ left } → AllZip IsAsLong waiting left
     → given ++ parted waiting rest ≡ parted old.plan.run.members words → now ≡ with_words old words

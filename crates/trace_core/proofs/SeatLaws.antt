@@ -1,4 +1,4 @@
--- What making seats ready for a step keeps: their snapshots and the inputs at the row before; and which cells they have then.
+-- Preparing seats for a step leaves their snapshots and the inputs at the row before unchanged. It determines their cells.
 use Rattle.std.proofs.Common.{◌≡◌, ◌∙◌, ℕ, zero, suc, ◌<◌, Bool, true, false, ℤ, List, [], ◌∷◌, map, zip, length, get_or, set, Some, refl, sym, ap, subst}
 use Rattle.std.proofs.Common.{arith}
 use Rattle.std.proofs.lemmas.List.{length-map}
@@ -62,7 +62,7 @@ are_saved_kept store (had ∷ old) (seat ∷ new) (state ∷ states) same are =
     let others : ids_of new ≡ ids_of old = cc in
     (ap (words_of store) first ∙ are.0, are_saved_kept store old new states others are.1)
 
--- ---- What is seen of seats
+-- ---- What contracts see of seats
 
 pub cells_long : (seats : List Seat) (states : List (List ℤ)) → length (cells_in seats states) ≡ length seats
 cells_long [] states = refl
@@ -86,13 +86,13 @@ cells_set (first ∷ seats) (had ∷ states) zero seat state long = refl
 cells_set (first ∷ seats) (had ∷ states) (suc instance) seat state long =
     ap (λ rest. cell_in first.slot had ∷ rest) (cells_set seats states instance seat state (omega (arith, long)))
 
--- ---- Seats that are made ready
+-- ---- Seats that are prepared
 
 cell_by : (held : Bool) (state : List ℤ) → cell_in (if held then slot.Held else slot.Empty) state ≡ (if held then Held else Empty)
 cell_by true state = refl
 cell_by false state = refl
 
--- Fresh slots are fresh cells, whatever the units hold.
+-- Fresh slots are fresh cells, for any states of the units.
 cells_fresh : (t h : ℕ) (members : List Member) (seats : List Seat) (states : List (List ℤ))
     → map (λ seat. seat.slot) seats ≡ map (λ member. fresh_slot t h member.factor) members
     → cells_in seats states ≡ map (cell_of t h) members

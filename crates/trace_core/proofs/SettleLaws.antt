@@ -48,7 +48,7 @@ proposed_ends run stand before most =
     let within = (proposal_is_greatest run.stop run.longest stand.at.point.t (limits run stand.at stand.ports)).holds.within_stop in
     omega (arith, within, before, most)
 
--- ---- What a run's seats are
+-- ---- The seats of a run
 
 module _ (r : Inside) (is : IsRun r) (have : HaveStates r.plan.value.run r.units.states) where
   abbrev run : Composition
@@ -77,11 +77,11 @@ module _ (r : Inside) (is : IsRun r) (have : HaveStates r.plan.value.run r.units
   in_time_by (Redo h) same going = let redone = phase_by (Redo h) same in subst (λ step. r.point.t + step ≤ 10 ^ 15) (sym redone.is) agreed_in_time
   in_time_by (Ended ending) same going = absurd (cc)
 
-  -- A step of the phase ends within what times may be.
+  -- A step of the phase ends within the range of times.
   pub step_in_time : is_ended r.phase ≡ false → r.point.t + step_length r.phase ≤ 10 ^ 15
   step_in_time going = in_time_by r.phase refl going
 
-  -- The counts have room for one more.
+  -- The counts can rise by one more.
   pub counts_fit : is_ended r.phase ≡ false → r.found + r.own + 1 < 20000000
   counts_fit going =
       let now = now_at_most run stand r.phase (cells_seen r.phase r.seats.items r.units.states) going is.stands.words is.stands.phase_is in

@@ -1,4 +1,4 @@
--- What settling leaves of a run.
+-- What stays of a run when it settles.
 use Rattle.std.proofs.Common.{◌≡◌, ◌≤◌, inl, inr, ap, arith}
 use Rattle.run_laws.proofs.RunTraces.{goes_to}
 use Rattle.trace_core.specs.Runs.{RunState}
@@ -7,7 +7,7 @@ use Rattle.trace_core.specs.declared.phase.Settle.{Settle}
 use Rattle.trace_core.specs.declared.phase.Settle.TheVariants as settle
 use Rattle.unit_tree.specs.Successor.{Position}
 
--- The rows that were counted are no fewer.
+-- The counts of rows don't fall.
 pub settled_number : (old new : RunState) (to : Settle) → Settled old new to → old.stand.at.number ≤ new.stand.at.number
 settled_number old new to settled = by to settled
   where

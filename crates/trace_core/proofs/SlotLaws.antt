@@ -1,4 +1,4 @@
--- What full slots tell of a step, what units hold behind it, and what seats are at the beginning of a step.
+-- The step of a full slot, the states of units after it, and the seats at the beginning of a step.
 use Rattle.std.proofs.Common.{◌≡◌, ◌∙◌, ℕ, ◌+◌, ◌≤◌, cond, Bool, true, false, ℤ, List, [], ◌∷◌, length, map, Option, Some, None, Result, Ok, Err, refl, ap, sym}
 use Rattle.std.proofs.Common.{subst, arith}
 use Rattle.std.proofs.lemmas.Slice.Zip.{firsts-zip, seconds-zip}
@@ -25,7 +25,7 @@ use Rattle.run_laws.proofs.PositionLaws.{Words}
 
 -- ---- One slot
 
--- What a full slot tells of a step, with what the unit holds.
+-- The step of a full slot, with the state that the unit has.
 abbrev told_by : Slot → List ℤ → Option (Result Moved Fault)
 told_by slot.Held unit = None
 told_by slot.Empty unit = None
@@ -146,7 +146,7 @@ module _ (t h : ℕ) (ports : Ports) where
       ap (λ state. state ∷ map state_after (zip (states_in standings) (steps standings))) first
       ∙ ap (λ units. pair.0 ∷ units) (units_after standings pairs are.1 full.1)
 
-  -- With whether the member is held, and what its step gives.
+  -- By whether the member is held, and by the result of its step.
   within_by : (held : Bool) (result : Result Moved Fault) (member : Member) (state : List ℤ) (asked time : ℕ) (inputs unit : List ℤ) (given : Slot)
       → IsMember member → Words member state → asked ≡ local_step member.factor t h
       → step_of member.component state inputs time (local_step member.factor t h) ≡ result → SlotIs (cond held None (Some result)) given unit state
@@ -220,7 +220,7 @@ module _ (t h : ℕ) (ports : Ports) (members : List Member) (states units : Lis
       subst (λ some. HaveClocks t h some seats) members_are
       (subst (HaveClocks t h (members_in (zip members states))) seats_are (clocks_in t h ports (zip members states) (zip units seats) are))
 
-  -- What was accepted is within what was asked, whether or not all slots are full.
+  -- What was accepted is at most the local step, whether or not all slots are full.
   pub accepted_within : AllByRecursion IsMember members → AllZip Words members states → AreWithin seats
   accepted_within are_members words =
       subst AreWithin seats_are (within_in t h ports (zip members states) (zip units seats) are (standing_words members states are_members words))
@@ -276,7 +276,7 @@ begun_in t h ports (member ∷ members) (state ∷ states) (pair ∷ pairs) long
   begun_in t h ports members states pairs (omega (arith, long)) begun.1,
 )
 
--- Where units hold the committed states, seats that are made ready are those of the step.
+-- Where units have the committed states, prepared seats are those of the step.
 pub seats_begun : (t h : ℕ) (ports : Ports) (members : List Member) (states units : List (List ℤ)) (old new : List Seat) → length states ≡ length members
     → units ≡ states → AreBegun t h members old new → AreSeats t h ports (zip members states) units new
 seats_begun t h ports members states units old new long same begun =

@@ -1,4 +1,4 @@
--- What a run keeps at its opening, and from one call to the next.
+-- The invariant of a run at its opening, and from one call to the next.
 use Rattle.std.proofs.Common.{◌≡◌, ◌∙◌, ℕ, suc, ◌+◌, ◌*◌, ◌<◌, ◌≤◌, true, false, ℤ, List, [], length, length-set, get_or, Some, Result, inl, inr, refl, sym, ap}
 use Rattle.std.proofs.Common.{subst, arith}
 use Rattle.std.proofs.lemmas.Bool.Decides.{eqb_tells}
@@ -116,7 +116,7 @@ stands_moved old next stands going on =
           (now_at_most old.plan.run old.stand old.phase old.cells going stands.words stands.phase_is);
     }
 
--- ---- Where the step is made anew
+-- ---- At a redo
 
 module _ (old : RunState) (stands : Stands old) (h : ℕ) (is : old.phase ≡ Trial h) (full : AreCellsFull old.cells) where
   trial_is : IsTrial old.plan.run old.stand h old.cells
@@ -265,7 +265,7 @@ hold_more old instance step hold wanted gives place held is = elim (eqb_tells pl
     same_step : Filled step ≡ Filled held → step ≡ held
     same_step made = cc
 
--- With the cell of an instance filled, and these counts.
+-- The run with the cell of an instance filled, and these counts.
 abbrev pub filled : RunState → ℕ → Result Moved Fault → ℕ → ℕ → RunState
 filled old instance step found own = record old { cells = filled_at old.cells instance step; found = found; own = own }
 

@@ -1,4 +1,4 @@
--- Words that are one for each state, and words that are parted by the states of members.
+-- Words with exactly one for each state, and words that are divided by the states of members.
 use Rattle.std.proofs.Common.{◌≡◌, ◌∙◌, ℕ, suc, ◌+◌, ◌<◌, ◌==◌, cond, Bool, true, false, ℤ, List, [], ◌∷◌, ◌++◌, length, take, drop, get_or, Option, Some, None}
 use Rattle.std.proofs.Common.{refl, ap, ap₂, sym, arith, length-append, length-drop, take-append-drop}
 use Rattle.std.proofs.lemmas.Bool.Decides.{nat_tests}
@@ -24,7 +24,7 @@ use Rattle.unit_tree.specs.declared.unit.Unit.{Unit}
 
 -- ---- One word after the other
 
--- behind the words of two lists of states
+-- After the words of two lists of states.
 behind_by : (fits : Bool) (others : List State) (both one : Option (List ℤ)) → both ≡ option_and_then (words_behind others) one
     → cond fits both None ≡ option_and_then (words_behind others) (cond fits one None)
 behind_by true others both one is = is
@@ -37,7 +37,7 @@ behind_both (state ∷ ones) others [] = refl
 behind_both (state ∷ ones) others (word ∷ words) =
     behind_by (is_word_of state.ty word) others (words_behind (ones ++ others) words) (words_behind ones words) (behind_both ones others words)
 
--- where nothing is left, each was of its type
+-- Where no words are left, each was of its type.
 each_by : (fits : Bool) (state : State) (states : List State) (word : ℤ) (words : List ℤ) → is_word_of state.ty word ≡ fits
     → (words_behind states words ≡ Some [] → AreWordsOf states words) → cond fits (words_behind states words) None ≡ Some []
     → AreWordsOf (state ∷ states) (word ∷ words)
@@ -81,7 +81,7 @@ states_of_plan plan checked system composed is plain =
     ∙ states_declared (plain_form plan.system) (plain_form plan.system).instances
     ∙ ap system_states (sym (plain ∙ ap plain_form is))
 
--- from an instance on, its own states come first
+-- From an instance on, its own states come first.
 pub instance_behind : (system : System) (instances : List Instance) (place : ℕ) (instance : Instance) (words : List ℤ) → place < length instances
     → instance ≡ get_or instances place instance
     → words_behind (flat_map (instance_states system) (drop place instances)) words
@@ -92,7 +92,7 @@ instance_behind system instances place instance words within is =
     ap (λ some. words_behind (flat_map (instance_states system) some) words) here
     ∙ behind_both (instance_states system instance) (flat_map (instance_states system) (drop (place + 1) instances)) words
 
--- ---- What is left behind the last state
+-- ---- What is left after the last state
 
 pub is_last : (states : List State) (words left : List ℤ) (empty : Bool) → words_behind states words ≡ Some left → empty ≡ (length left == 0)
     → (IsTrue empty → AreWordsOf states words) × (AreWordsOf states words → IsTrue empty)
@@ -113,7 +113,7 @@ some_missing states words is each = apart (sym is ∙ none_behind states words e
     apart : ◌≡◌ {A = Option (List ℤ)} None (Some []) → ⊥
     apart same = cc
 
--- ---- Words that are parted
+-- ---- Words that are divided among members
 
 abbrev pub Words : Member → List ℤ → Type 0
 Words member state = AreWordsOf member.component.unit.states state
@@ -130,7 +130,7 @@ parted_words (member ∷ members) words each =
     let cut = zip_cut (λ (state : State) word. is_word_of state.ty word ≡ true) member.component.unit.states (states_in members) words each in
     (cut.0, parted_words members (drop (length member.component.unit.states) words) cut.1)
 
--- what is left behind the words of the first member
+-- What is left after the words of the first member.
 pub others_long : (member : Member) (members : List Member) (words : List ℤ) → length words ≡ length (states_in (member ∷ members))
     → length words ≡ length member.component.unit.states + length (states_in members)
 others_long member members words long = long ∙ length-append member.component.unit.states (states_in members)
@@ -170,7 +170,7 @@ split_same (x ∷ a) (y ∷ b) c d long same =
     let others = split_same a b c d (omega (arith, long)) tail in
     (ap₂ (λ z zs. z ∷ zs) head others.0, others.1)
 
--- they are of one list of states at most
+-- They are of at most one list of states.
 pub parted_once : (members : List Member) (ones others : List (List ℤ)) → AllZip Words members ones → AllZip Words members others
     → joined ones ≡ joined others → ones ≡ others
 parted_once [] [] [] is also same = refl

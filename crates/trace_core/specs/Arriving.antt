@@ -1,4 +1,4 @@
--- Coming to a stand, told of lists of states and inputs.
+-- Arriving at a stand, by lists of states and inputs.
 use Rattle.std.specs.Prelude.{◌≡◌, ℕ, suc, ◌==◌, ℤ, List, if◌then◌else◌, Option, Some, None, Result, Ok, Err}
 use Rattle.super_time.specs.declared.point.Point.{Point}
 use Rattle.trace_core.specs.Seats.{AreBegun, all_told, asked}
@@ -14,7 +14,7 @@ use Rattle.unit_tree.specs.declared.ending.Ending.TheVariants.{Completed, RowBud
 abbrev pub position_with : Point → List (List ℤ) → ℕ → Position
 position_with point states number = record { point = point; states = states; number = number }
 
--- The trial of a step that is proposed, or the end.
+-- The trial of a proposed step, or the end.
 abbrev pub tried : Result ℕ Ending → Phase
 tried (Ok h) = Trial h
 tried (Err ending) = Ended ending
@@ -26,12 +26,12 @@ phase_there run point number states inputs =
     else (if suc number == run.row_budget then Ended RowBudget
     else tried (asked run point.t (all_told point.t run.members states inputs)))
 
--- By the end that is told, or else another phase.
+-- The end, where there is one, and otherwise another phase.
 abbrev pub ended_or : Option Ending → Phase → Phase
 ended_or (Some ending) phase = Ended ending
 ended_or None phase = phase
 
--- The seats are made ready for the step of a trial. An end leaves them.
+-- The seats are prepared for the step of a trial. An end leaves them as they are.
 abbrev pub AreBegunIn : ℕ → Phase → List Member → List Seat → List Seat → Type 0
 AreBegunIn t (Trial h) members old new = AreBegun t h members old new
 AreBegunIn t (Redo h) members old new = AreBegun t h members old new

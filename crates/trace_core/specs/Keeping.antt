@@ -1,4 +1,4 @@
--- What a run keeps beside what contracts see of it.
+-- The invariant of a run, with its private fields.
 use Rattle.std.specs.Prelude.{◌≡◌, true, List, [], map, length, is_none, ⊤, ℤ}
 use Rattle.std.specs.List.{list_all}
 use Rattle.port_solve.specs.Solved.{ports_told}
@@ -22,7 +22,7 @@ use Rattle.unit_tree.specs.Trace.{Stand}
 abbrev pub position_of : Opened → Position
 position_of opened = record { point = opened.point; states = map (λ state. state.items) opened.states.items; number = opened.number }
 
--- Where a run stands: its states are those of the snapshots, and a port has a word where it is known.
+-- The stand of a run: its states are those of the snapshots, and a port has a word where it is known.
 abbrev pub stand_of : Inside → Stand
 stand_of run = record {
   at = record { point = run.point; states = saved run.snaps run.seats.items; number = run.number };
@@ -39,7 +39,7 @@ cells_seen (Ended ending) seats states = []
 abbrev pub inputs_before : List Seat → List (List ℤ)
 inputs_before seats = map (λ seat. seat.before.items) seats
 
--- All of it.
+-- What contracts see of a run.
 abbrev pub run_state : Inside → RunState
 run_state run = record {
   plan = run.plan.value;
@@ -52,15 +52,15 @@ run_state run = record {
   own = run.own;
 }
 
--- ---- What it keeps
+-- ---- The invariant
 
--- While the run goes on, the seats stand for the steps of the phase. After its end nothing is known of them.
+-- While the run goes on, the seats have the steps of the phase. After its end nothing is known of them.
 abbrev pub SeatsFit : Composition → Stand → Phase → List (List ℤ) → List Seat → Type 0
 SeatsFit run stand (Trial h) units seats = AreSeats stand.at.point.t h stand.ports (standings run stand.at) units seats
 SeatsFit run stand (Redo h) units seats = AreSeats stand.at.point.t h stand.ports (standings run stand.at) units seats
 SeatsFit run stand (Ended ending) units seats = ⊤
 
--- There is room for all that is written later.
+-- There is memory for all that is written later.
 pub record HasRoom (run : Composition) (inside : Inside) : Type 0 where
   pub ports : length inside.ports.items ≡ length (routes_of run).outputs
   pub known : length inside.known.items ≡ length (routes_of run).outputs
@@ -68,8 +68,8 @@ pub record HasRoom (run : Composition) (inside : Inside) : Type 0 where
   pub limits : length inside.limits.items ≡ length run.members
   pub replies : length inside.replies.items ≡ length run.members
 
--- A run stands as `Stands` says. Its units are those of its plan, and hold the words of the inputs where all ports have words; its
--- snapshots are its own, and hold states.
+-- The run is as `Stands` says. Its units are those of its plan, and have the words of the inputs where all ports have words.
+-- Its snapshots have ids that differ, and their words are states.
 pub record IsRun (run : Inside) : Type 0 where
   pub stands : Stands (run_state run)
   pub tied : run.units.plan ≡ run.plan.value

@@ -1,4 +1,4 @@
--- Seats: what a run keeps of each instance beside its unit, and what that stands for.
+-- Seats: what a run keeps of each instance in addition to its unit, and what this means.
 use Rattle.std.specs.Prelude.{⊤, ◌≡◌, ◌≢◌, ◌<◌, ◌≤◌, ℕ, false, ℤ, List, [], ◌∷◌, map, zip, length, get_or, if◌then◌else◌, nat_lt, Option, Some, None, Result}
 use Rattle.std.specs.Prelude.{Ok, Err}
 use Rattle.std.specs.List.{AllZip, AllByRecursion}
@@ -36,8 +36,8 @@ cells_in [] states = []
 cells_in (seat ∷ seats) [] = cell_in seat.slot [] ∷ cells_in seats []
 cells_in (seat ∷ seats) (state ∷ states) = cell_in seat.slot state ∷ cells_in seats states
 
--- A slot stands for the step of its member, which is nothing where the member is held. The unit holds the new state where
--- the step was made, and else the committed one.
+-- The slot is that of the step of its member, and held where there is no step. The unit has the new state where the step was
+-- made, and otherwise the committed one.
 abbrev pub SlotIs : Option (Result Moved Fault) → Slot → List ℤ → List ℤ → Type 0
 SlotIs step slot.Held unit committed = (step ≡ None) × (unit ≡ committed)
 SlotIs None slot.Empty unit committed = ⊥
@@ -51,12 +51,12 @@ AreFull seats = AllByRecursion (λ seat. is_empty seat.slot ≡ false) seats
 
 -- ---- Clocks
 
--- The seat of a member whose local tick is so many ticks has its local time at t, and the local step of h from there.
+-- The seat of a member whose local tick is so many ticks: it has its local time at t, and the local step of h from there.
 pub record HasClock (t h factor : ℕ) (seat : Seat) : Type 0 where
   pub time : seat.time ≡ local_time factor t
   pub step : seat.step ≡ local_step factor t h
 
--- A seat with its member, the committed state, and what the unit holds, in a step of h from t.
+-- The seat of a member, its committed state, and the state that its unit has, in a step of h from t.
 pub record IsSeat (t h : ℕ) (ports : Ports) (standing : Standing) (unit : List ℤ × Seat) : Type 0 where
   pub clock : HasClock t h standing.0.factor unit.1
   pub slot : SlotIs (step_at t h ports standing) unit.1.slot unit.0 standing.1
@@ -71,36 +71,35 @@ AreSeats t h ports standings units seats = AllZip (IsSeat t h ports) standings (
 abbrev pub fresh_slot : ℕ → ℕ → ℕ → Slot
 fresh_slot t h factor = if is_held factor t h then slot.Held else slot.Empty
 
--- Its seat is made ready for a step of h from t.
+-- The seat is prepared for a step of h from t.
 pub record IsBegun (t h factor : ℕ) (old new : Seat) : Type 0 where
   pub clock : HasClock t h factor new
   pub slot : new.slot ≡ fresh_slot t h factor
   pub id : new.id ≡ old.id
   pub before : new.before ≡ old.before
 
--- All seats are made ready for a step of h from t, each for its member.
+-- All seats are prepared for a step of h from t, each for its member.
 pub record AreBegun (t h : ℕ) (members : List Member) (old new : List Seat) : Type 0 where
   pub as_many : length new ≡ length old
   pub each : AllZip (λ member pair. IsBegun t h member.factor pair.0 pair.1) members (zip old new)
 
 -- ---- Reading a step whose cells are full
 
--- How the step that a slot tells ends the run: by its fault.
+-- How the step of a slot ends the run: by its fault.
 abbrev pub end_in : ℕ → Slot → Option Ending
 end_in instance (slot.Failed fault) = Some (UnitFault instance place.Step fault)
 end_in instance _ = None
 
--- How the step of a seat ends the run, in the trial.
+-- How the step of a seat ends the run in a trial.
 abbrev pub slot_end : ℕ × Seat → Option Ending
 slot_end (instance, seat) = end_in instance seat.slot
 
--- How the step that a slot tells ends the run, in a step that is made anew: by its fault, or where it accepted less than it was
--- asked.
+-- How the step of a slot ends the run in a redo: by its fault, or where it accepted less than the whole step.
 abbrev pub redo_end_in : ℕ → ℕ → Slot → Option Ending
 redo_end_in instance step (slot.Took accepted) = when (nat_lt accepted step) (StepRefused instance step accepted)
 redo_end_in instance step other = end_in instance other
 
--- How the step of a seat ends the run, in a step that is made anew.
+-- How the step of a seat ends the run in a redo.
 abbrev pub redo_slot_end : ℕ × Seat → Option Ending
 redo_slot_end (instance, seat) = redo_end_in instance seat.step seat.slot
 
@@ -122,45 +121,45 @@ replied factor t h other = Ok (reply_in factor t h other)
 abbrev pub HaveClocks : ℕ → ℕ → List Member → List Seat → Type 0
 HaveClocks t h members seats = AllZip (λ member seat. HasClock t h member.factor seat) members seats
 
--- A step accepted no more than it was asked.
+-- A step accepted no more than its length.
 abbrev pub IsWithin : ℕ → Slot → Type 0
 IsWithin step (slot.Took accepted) = accepted ≤ step
 IsWithin step _ = ⊤
 
--- No step of a seat accepted more than it was asked.
+-- No step of a seat accepted more than its length.
 abbrev pub AreWithin : List Seat → Type 0
 AreWithin seats = AllByRecursion (λ seat. IsWithin seat.step seat.slot) seats
 
 -- ---- Limits
 
--- What the `max` of a member with its state and the words of its inputs gives at t.
+-- The result of the `max` of a member at t, from its state and the words of its inputs.
 abbrev pub max_told : ℕ → Member × (List ℤ × List ℤ) → Result (Option ℕ) Fault
 max_told t (member, (state, inputs)) = max_of member.component state inputs (local_time member.factor t)
 
--- What the `max` of each member gives.
+-- The result of the `max` of each member.
 abbrev pub all_told : ℕ → List Member → List (List ℤ) → List (List ℤ) → List (Result (Option ℕ) Fault)
 all_told t members states inputs = map (max_told t) (zip members (zip states inputs))
 
--- The limits that these are, of the members that have one.
+-- The limits among these results, of the members that have one.
 abbrev pub limits_told : ℕ → List Member → List (Result (Option ℕ) Fault) → List ℕ
 limits_told t members told = filter_map (λ one. limit_told one.0.factor t one.1) (zip members told)
 
--- The proposal, unless the run ends.
+-- This end, where there is one, and otherwise the proposed step.
 abbrev pub ending_or : Option Ending → ℕ → Result ℕ Ending
 ending_or (Some ending) proposal = Err ending
 ending_or None proposal = Ok proposal
 
--- The step that is proposed at t, or how a `max` ends the run.
+-- The proposed step at t, or how a `max` ends the run.
 abbrev pub asked : Composition → ℕ → List (Result (Option ℕ) Fault) → Result ℕ Ending
 asked run t told = ending_or (first_told max_end_of told) (proposal_of run.stop run.longest t (limits_told t run.members told))
 
 -- ---- Snapshots
 
--- The snapshots of seats hold these states.
+-- The snapshots of seats have these states.
 abbrev pub AreSaved : Store → List Seat → List (List ℤ) → Type 0
 AreSaved store seats states = AllZip (λ seat state. words_of store seat.id ≡ Some state) seats states
 
--- The states that a store holds for seats.
+-- The states that a store has for seats.
 abbrev pub saved : Store → List Seat → List (List ℤ)
 saved store seats = map (λ seat. unwrap_or (words_of store seat.id) []) seats
 
@@ -168,11 +167,11 @@ saved store seats = map (λ seat. unwrap_or (words_of store seat.id) []) seats
 abbrev pub HaveOwnIds : List Seat → Type 0
 HaveOwnIds seats = (default : Seat) (one other : ℕ) → one < other → other < length seats → (get_or seats one default).id ≢ (get_or seats other default).id
 
--- The lists are as long, one by one.
+-- The lists have the same lengths, one by one.
 abbrev pub AreAsLong : List (List ℤ) → List (List ℤ) → Type 0
 AreAsLong ones others = map length ones ≡ map length others
 
--- What a commit leaves of a seat: the words of its inputs at the row before are those that its unit has.
+-- A seat after a commit: the words of its inputs at the row before are those that its unit has.
 pub record IsCommitted (inputs : List ℤ) (old new : Seat) : Type 0 where
   pub before : new.before.items ≡ inputs
   pub id : new.id ≡ old.id

@@ -9,7 +9,7 @@ abbrev pub slot_for : Result ℕ Fault → Slot
 slot_for (Ok accepted) = Took accepted
 slot_for (Err fault) = Failed fault
 
--- The step is not there yet.
+-- The step was not made yet.
 abbrev pub is_empty : Slot → Bool
 is_empty Empty = true
 is_empty _ = false

@@ -1,4 +1,4 @@
--- The words of states that are given one after the other: how they are tested, and what is known of them then.
+-- The words of all states, one after the other: how they are tested, and what follows.
 use Rattle.std.specs.Prelude.{ℕ, ◌<◌, ◌≤◌, ℤ, List, [], ◌∷◌, length, take, drop, if◌then◌else◌, Option, Some, None}
 use Rattle.std.specs.List.{flat_map}
 use Rattle.fixed_words.specs.Types.{is_word_of}
@@ -29,23 +29,23 @@ instance_states system instance = states_had (unit_of_instance system instance)
 abbrev pub system_states : System → List State
 system_states system = flat_map (instance_states system) system.instances
 
--- What is left of words behind one for each state, where each is of its type.
+-- The words left after one for each state, where each of these is of its type.
 abbrev pub words_behind : List State → List ℤ → Option (List ℤ)
 words_behind [] words = Some words
 words_behind (state ∷ states) [] = None
 words_behind (state ∷ states) (word ∷ words) = if is_word_of state.ty word then words_behind states words else None
 
--- Words as the states of members: each has as many of them as it declares states, in turn.
+-- Words as the states of members: each takes as many as it declares states, in turn.
 abbrev pub parted : List Member → List ℤ → List (List ℤ)
 parted [] words = []
 parted (member ∷ members) words =
     take (length member.component.unit.states) words ∷ parted members (drop (length member.component.unit.states) words)
 
--- Units with these words as their states.
+-- The units with these words as their states.
 abbrev pub with_words : Fleet → List ℤ → Fleet
 with_words units words = record units { states = parted units.plan.run.members words }
 
--- The numbers are within the bounds of the run, and there is just one word for each state, of its type.
+-- The row and the point are within the bounds of the run, and there is exactly one word for each state, of its type.
 pub record MayOpen (run : Composition) (row : ℕ) (point : Point) (words : List ℤ) : Type 0 where
   pub stop : point.t ≤ run.stop
   pub zeros : point.n ≤ run.zero_budget

@@ -1,4 +1,4 @@
-//! What an answer tells, brought into the units of a run.
+//! The result of a step, stored in the units of a run.
 ghost use Rattle.std.specs.Prelude.{◌≡◌, ◌<◌, [], length, slice_index_or, IfOk};
 ghost use Rattle.trace_core.specs.Accepting.{accepted_of, with_step};
 ghost use Rattle.trace_core.specs.Slots.{slot_for};
@@ -8,7 +8,7 @@ use crate::seat::Slot;
 use trace_units::Units;
 use unit_answers::Answer;
 
-/// Gives an instance the state that its step moved to, and tells its slot. After a fault all units stay.
+/// Sets the state of an instance to the one that its step led to, and returns its slot. After a fault all units stay as they are.
 pub(crate) fn take_step(units: &mut Units, instance: u32, answer: &Answer) -> Slot
     requires there { instance < length units.old.plan.run.members }
     requires as_long { IfOk (step_told answer.now) (λ moved. length moved.state ≡ length (slice_index_or units.old.states instance [])) }

@@ -1,4 +1,4 @@
-//! What the full cells of a phase come to.
+//! Where a run goes from a phase whose cells are all filled.
 ghost use Rattle.std.specs.Prelude.{◌≡◌, ◌≤◌, ◌<◌, ◌+◌, ◌^◌, length};
 ghost use Rattle.trace_core.specs.Courses.{course_of_trial, course_of_redo, course_in, course_on, IsReady};
 ghost use Rattle.trace_core.specs.Seats.{AreWithin, HaveClocks};
@@ -13,14 +13,14 @@ use unit_tree::{Ending, Point};
 /// Where a run goes from a phase.
 #[derive(Clone, Copy, Debug, PartialEq, Eq)]
 pub(crate) enum Course {
-    /// The step is made anew, by this length.
+    /// The step is made again, by this length.
     Redo(u64),
-    /// To the next point.
+    /// The run goes to this point.
     On(Point),
     End(Ending),
 }
 
-/// On by a step of `h`, or to the end where this is one step of length zero too many.
+/// Returns the next point after a step of `h`, or the end where this is one zero step too many.
 fn go_on(plan: &Plan, point: Point, h: u64) -> Course
     requires end { point.t + h ≤ 10 ^ 15 }
     requires zeros { point.n ≤ plan.now.run.zero_budget }
@@ -32,7 +32,7 @@ fn go_on(plan: &Plan, point: Point, h: u64) -> Course
     }
 }
 
-/// What the trial of a step of `h` comes to.
+/// Returns where the run goes from the trial of a step of `h`.
 fn course_of_trial(plan: &Plan, seats: &[Seat], point: Point, h: u64, replies: &mut [u64]) -> Course
     requires clocks { HaveClocks point.t h plan.now.run.members seats.now }
     requires replies { length replies.old ≡ length seats.now }
@@ -53,7 +53,7 @@ fn course_of_trial(plan: &Plan, seats: &[Seat], point: Point, h: u64, replies: &
     go_on(plan, point, h)
 }
 
-/// What the step comes to that is made anew by a length of `h`.
+/// Returns where the run goes from the redo of a step by a length of `h`.
 fn course_of_redo(plan: &Plan, seats: &[Seat], point: Point, h: u64) -> Course
     requires seats { length seats.now ≤ 64 }
     requires end { point.t + h ≤ 10 ^ 15 }
@@ -66,7 +66,7 @@ fn course_of_redo(plan: &Plan, seats: &[Seat], point: Point, h: u64) -> Course
     }
 }
 
-/// Where a run goes from a phase of which no cell is empty.
+/// Returns where a run goes from a phase of which no cell is empty.
 pub(crate) fn course_of(
     plan: &Plan,
     seats: &[Seat],
@@ -81,7 +81,7 @@ pub(crate) fn course_of(
     ensures course { result ≡ course_in plan.now.run point phase seats.now }
     ensures as_many { length replies.new ≡ length replies.old }
 {
-    // How many seats there may be is known by the clauses of this call alone.
+    // Called for its clauses, which state how many seats there may be.
     let _ = plan.instances();
     match phase {
         Phase::Trial { h } => course_of_trial(plan, seats, point, h, replies),

@@ -1,16 +1,16 @@
 //! The run of a plan: from one row of the trace to the next.
 //!
-//! [`Run::open`] opens a run at the first point of its plan. In each phase the steps that [`Run::wants`] tells of are made,
-//! one by one and in any order, by [`Run::compute`], or taken by [`Run::accept`] from answers that prove themselves; then
-//! [`Run::settle`] makes the step anew, comes to the next row, or to the end. So the whole trace is reached, and after the opening
-//! without memory.
+//! [`Run::open`] opens a run at the first point of its plan. In each phase [`Run::wants`] returns the required steps. They are
+//! made one by one, in any order, by [`Run::compute`], or taken by [`Run::accept`] from answers with their proof. Then
+//! [`Run::settle`] goes on to a redo, to the next row, or to the end. So a run reaches the whole trace, and takes no memory after
+//! it was opened.
 //!
-//! [`Run::open_at`] opens a run at any position at which it may stand, on the trace or not; from there it goes on in the same way.
+//! [`Run::open_at`] opens a run at any position at which a run may be, on the trace or not. It goes on from there in the same way.
 //!
-//! The layer above uses [`Plan`] and [`Run`]. What contracts see of a run, and what each keeps (`Stands`), is in
-//! `specs/Runs.antt`, what settling makes of it in `specs/Settling.antt`, and at which positions one is opened in
-//! `specs/OpenedAt.antt`, over the definitions of a run in `unit_tree`. `specs/Seats.antt`, `specs/Keeping.antt`,
-//! `specs/Accepting.antt` and `specs/StateWords.antt`, which need not be believed, say how it is gone about.
+//! The layer above uses [`Plan`] and [`Run`]. What contracts see of a run, and its invariant (`Stands`), are in
+//! `specs/Runs.antt`. `specs/Settling.antt` defines what settling does, and `specs/OpenedAt.antt` the positions at which a run is
+//! opened. They use the definitions of a run in `unit_tree`. `specs/Seats.antt`, `specs/Keeping.antt`, `specs/Accepting.antt`
+//! and `specs/StateWords.antt` describe how the code proceeds; no promise depends on them.
 #![tactic(auto)]
 
 mod accepting;

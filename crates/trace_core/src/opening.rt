@@ -8,7 +8,7 @@ use snap_store::Snaps;
 use std::alloc::Global;
 use trace_units::Units;
 
-/// A seat for each unit, with a snapshot of its state.
+/// Returns a seat for each unit, with a snapshot of its state.
 pub(crate) fn seats_of(
     alloc: Global,
     units: &Units,
@@ -31,7 +31,7 @@ pub(crate) fn seats_of(
     Ok(seats)
 }
 
-/// The states of all units.
+/// Returns the states of all units.
 pub(crate) fn states_of(alloc: Global, units: &Units) -> Result<Vec<Vec<i64>>, NoMemory>
     ensures { IfOk result (λ states. map (λ state. state.items) states.items ≡ units.now.states) }
 {

@@ -18,7 +18,7 @@ use unit_tree::{Instance, Point, State, System};
 /// Why a run was not opened at a position.
 #[derive(Clone, Copy, Debug, PartialEq, Eq, Error)]
 pub enum OpenFault {
-    /// The run may stand at no such position.
+    /// The run can't be at such a position.
     #[error("no position fits")]
     Misfit,
     #[error("no memory")]
@@ -36,7 +36,7 @@ impl From<NoMemory> for OpenFault {
     }
 }
 
-/// The states of an instance.
+/// Returns the states of an instance.
 fn instance_states<'s>(system: &'s System, instance: &Instance) -> &'s [State]
     ensures { result.now ≡ instance_states system.now instance.now }
 {
@@ -46,7 +46,7 @@ fn instance_states<'s>(system: &'s System, instance: &Instance) -> &'s [State]
     }
 }
 
-/// What is left of words behind one for each state, where each is of its type.
+/// Takes one word for each state, and returns the other words. `None` where a word is missing or is not of its type.
 fn words_behind<'w>(states: &[State], words: &'w [i64]) -> Option<&'w [i64]>
     ensures { option_map (λ behind. behind.now) result ≡ words_behind states.now words.now }
 {
@@ -71,7 +71,7 @@ fn words_behind_all<'w>(system: &System, words: &'w [i64]) -> Option<&'w [i64]>
     Some(rest)
 }
 
-/// Whether there is just one word for each state of each instance, of its type.
+/// Returns whether there is exactly one word for each state of each instance, of its type.
 fn are_state_words(plan: &Plan, words: &[i64]) -> bool
     ensures { IsTrue result ↔ AreWordsOf (states_in plan.now.run.members) words.now }
 {
@@ -81,7 +81,7 @@ fn are_state_words(plan: &Plan, words: &[i64]) -> bool
     }
 }
 
-/// Whether the run of a plan may stand at the position that these tell.
+/// Returns whether the run of a plan may be at this position.
 fn may_open(plan: &Plan, row: u64, point: Point, words: &[i64]) -> bool
     ensures may { result ≡ true → MayOpen plan.now.run row point words.now }
     ensures may_not { result ≡ false → FitsNone plan.now.run row point words.now }
@@ -92,7 +92,7 @@ fn may_open(plan: &Plan, row: u64, point: Point, words: &[i64]) -> bool
         && are_state_words(plan, words)
 }
 
-/// Gives all units these words as their states: each as many of them as it has states, in turn.
+/// Sets the states of all units to these words. Each unit takes as many as it has states, in turn.
 fn restore_words(units: &mut Units, words: &[i64])
     requires { length words.now ≡ length (states_in units.old.plan.run.members) }
     ensures { units.new ≡ with_words units.old words.now }
@@ -106,14 +106,14 @@ fn restore_words(units: &mut Units, words: &[i64])
 }
 
 impl Run {
-    /// The run of a plan at any position at which it may stand, be it on the trace or not: that of this row and this point, whose
-    /// states have these words, by instance and then by declaration.
+    /// Returns the run of a plan, opened at the position with this row and this point. `states` has the words of all states, by instance
+    /// and then by declaration. The position may be on the trace or not.
     ///
     /// # Errors
     ///
-    /// [`OpenFault::Misfit`] exactly where there is no such position: where the words are not one for each state, one is not of its
-    /// type, the point is behind the stop or above the budget of steps of length zero, or the row is not within the budget of rows.
-    /// [`OpenFault::NoMemory`] else.
+    /// [`OpenFault::Misfit`] exactly where there is no such position. Then the words are not one for each state, of its type; the point is
+    /// after the stop; its index is above the zero budget; or the row is not within the budget of rows.
+    /// [`OpenFault::NoMemory`] where memory is refused.
     pub fn open_at(
         alloc: Global,
         plan: Arc<Plan>,
@@ -125,7 +125,7 @@ impl Run {
         ensures stands { IfOk result Stands }
         ensures misfit { result ≡ Err OpenFault.Misfit → FitsNone plan.value.run row point states.now }
     {
-        // What a plan keeps is known by the clause of this call alone.
+        // Called for its clause, which states the invariants of a plan.
         let _ = plan.checked();
         if !may_open(&plan, row, point, states) {
             return Err(OpenFault::Misfit);

@@ -1,20 +1,20 @@
 use unit_tree::{Ending, Point};
 
-/// What a run does where it stands. All lengths are in ticks of the system.
+/// The phase of a run at its position. All lengths are in ticks of the system.
 #[derive(Clone, Copy, Debug, PartialEq, Eq)]
 pub enum Phase {
-    /// It tries the step that is proposed.
+    /// The run tries the proposed step.
     Trial { h: u64 },
-    /// It makes the step anew from the same states, by the length that all components accept.
+    /// The run makes the step again from the same states, by the length that all components accept.
     Redo { h: u64 },
-    /// It ended.
+    /// The run has ended.
     Ended(Ending),
 }
 
-/// What settling a phase came to.
+/// The result of settling a phase.
 #[derive(Clone, Copy, Debug, PartialEq, Eq)]
 pub enum Settle {
-    /// Some component accepted less than the proposal: all states are restored, and all are to step again.
+    /// Some component accepted less than the proposed step: all states are restored, and each component makes its step again.
     Redo,
     /// The run came to a new point, at which all outputs have a word. It may have ended there.
     Row,

@@ -1,4 +1,4 @@
-//! The ports at a stand, and the phase that the stand asks for.
+//! The ports at a stand, and the phase that follows from it.
 ghost use Rattle.std.specs.Prelude.{◌≡◌, ◌≤◌, ◌<◌, ◌^◌, true, is_none, length};
 ghost use Rattle.std.specs.List.{list_all};
 ghost use Rattle.port_solve.specs.Solved.{ports_told};
@@ -16,7 +16,7 @@ use trace_plan::Plan;
 use trace_units::Units;
 use unit_tree::{Ending, Place, Point};
 
-/// Works out all outputs for the states of the units, and sets their inputs. The answer is the port fault, where there is one.
+/// Computes all outputs for the states of the units, and sets their inputs. Returns the port fault, where there is one.
 pub(crate) fn solve_ports(
     plan: &Plan,
     units: &mut Units,
@@ -38,7 +38,7 @@ pub(crate) fn solve_ports(
 {
     let _ = units.count();
     let solved = solve(plan.order(), plan.checked(), units, ports, known);
-    // The shape of the units is known by the clauses of this call alone, before and after.
+    // Called for its clauses, which state the shape of the units, before and after.
     let _ = units.count();
     match solved {
         Ok(()) => None,
@@ -50,8 +50,8 @@ pub(crate) fn solve_ports(
     }
 }
 
-/// The phase at a stand: the end by its port fault, where there is one, or another end, or the trial of the step that is
-/// proposed, for which the seats are made ready.
+/// Returns the phase at a stand: the end by its port fault or another end, or the trial of the proposed step. For a trial it
+/// prepares the seats.
 pub(crate) fn begin_phase(
     plan: &Plan,
     units: &mut Units,

@@ -29,7 +29,7 @@ use unit_answers::{Proven, same_key};
 use unit_exec::Want;
 use unit_tree::Point;
 
-/// The position at which a run was opened. It is kept for contracts alone: what stands is told from there.
+/// The position at which a run was opened. Only contracts use it: the invariant refers to it.
 #[derive(Drop)]
 pub(crate) struct Opened {
     pub(crate) point: Point,
@@ -37,7 +37,7 @@ pub(crate) struct Opened {
     pub(crate) number: u64,
 }
 
-/// What settling came to at a new point, by whether all its ports have words.
+/// Returns the result of settling at a new point. `solved` says whether all its ports have words.
 fn come_to(solved: bool) -> Settle
     ensures { result ≡ (if solved then settled.Row else settled.Ended) }
 {
@@ -46,9 +46,9 @@ fn come_to(solved: bool) -> Settle
 
 /// The run of a plan, from one row to the next.
 ///
-/// In each phase every instance that [`Run::wants`] tells of has to be stepped once, in any order: by [`Run::compute`], or by an
-/// answer that was made elsewhere and that [`Run::accept`] takes. Then [`Run::settle`] goes on. Instances are told by their
-/// numbers from 0. No call takes memory but [`Run::open`] and [`Run::open_at`], and none waits.
+/// In each phase every instance for which [`Run::wants`] returns a step has to make it once, in any order: by [`Run::compute`],
+/// or by an answer that was made elsewhere and that [`Run::accept`] takes. Then [`Run::settle`] goes on. Instances are given by
+/// their numbers from 0. Only [`Run::open`] and [`Run::open_at`] take memory, and no call waits.
 #[derive(Drop)]
 pub struct Run {
     plan: Arc<Plan>,
@@ -87,16 +87,16 @@ impl Model for Run {
 }
 
 impl Run {
-    /// The run of a plan at its start: the ports are solved at the first point, and the phase there is reached.
+    /// Opens the run of a plan at its start: solves the ports at the first point, and begins the phase there.
     ///
     /// # Errors
     ///
-    /// [`NoMemory`], and nothing else: a port that faults at the start is an end of the run, which is opened.
+    /// Only [`NoMemory`]. A port that faults at the start ends the run, but the run is opened.
     pub fn open(alloc: Global, plan: Arc<Plan>) -> Result<Run, NoMemory>
         ensures opened { IfOk result (IsOpened plan.value (first_position plan.value.run)) }
         ensures stands { IfOk result Stands }
     {
-        // What a plan keeps is known by the clauses of these calls alone.
+        // Called for their clauses, which state the invariants of a plan.
         let _ = plan.checked();
         let _ = plan.instances();
         let shared = Arc::clone(&plan)?;
@@ -104,7 +104,7 @@ impl Run {
         Run::open_from(alloc, plan, units, Point { t: 0, n: 0 }, 0)
     }
 
-    /// The run of a plan from the position of its units.
+    /// Opens the run of a plan at the position of its units.
     pub(crate) fn open_from(
         alloc: Global,
         plan: Arc<Plan>,
@@ -165,32 +165,32 @@ impl Run {
         })
     }
 
-    /// The point at which the run stands.
+    /// Returns the point at which the run is.
     pub fn point(&self) -> Point
         ensures { result ≡ self.now.stand.at.point }
     {
         self.point
     }
 
-    /// The number of the row there, from 0.
+    /// Returns the number of the row there, from 0.
     pub fn number(&self) -> u64
         ensures { result ≡ self.now.stand.at.number }
     {
         self.number
     }
 
-    /// What the run does there.
+    /// Returns the phase there.
     pub fn phase(&self) -> Phase
         ensures phase { result ≡ self.now.phase }
         ensures stands { Stands self.now }
         ensures meanings { HoldMeanings self.now }
     {
-        // That each instance has an image is known by the clauses of this call alone.
+        // Called for its clauses, which state that each instance has an image.
         let _ = self.plan.instances();
         self.phase
     }
 
-    /// The row there. There is none exactly where the run ended by the fault of an output.
+    /// Returns the row there. There is none exactly where the run ended by the fault of an output.
     pub fn row(&self) -> Option<Row<'_>>
         ensures { option_map row_told result ≡ row_at self.now.plan.run self.now.stand }
     {
@@ -203,7 +203,7 @@ impl Run {
         })
     }
 
-    /// The state of an instance there.
+    /// Returns the state of an instance there.
     pub fn state(&self, instance: u32) -> &[i64]
         requires { instance < length self.now.plan.run.members }
         ensures { slice_get self.now.stand.at.states instance ≡ Some result.now }
@@ -211,7 +211,7 @@ impl Run {
         self.snaps.words(self.seats[instance as usize].id)
     }
 
-    /// The words of an instance's inputs there.
+    /// Returns the words of an instance's inputs there.
     pub fn inputs(&self, instance: u32) -> &[i64]
         requires there { instance < length self.now.plan.run.members }
         requires going { is_ended self.now.phase ≡ false }
@@ -220,7 +220,7 @@ impl Run {
         self.units.inputs(instance)
     }
 
-    /// The words of an instance's inputs at the row before; where the run was opened those there.
+    /// Returns the words of an instance's inputs at the row before. Where the run was just opened, these are the words there.
     pub fn before(&self, instance: u32) -> &[i64]
         requires there { instance < length self.now.plan.run.members }
         requires going { is_ended self.now.phase ≡ false }
@@ -229,8 +229,8 @@ impl Run {
         &self.seats[instance as usize].before
     }
 
-    /// Whether a step is wanted of an instance. There is none exactly where there is no such instance, the run ended, the instance
-    /// is held, or its step is there.
+    /// Returns whether a step of an instance is required. It is not, exactly where there is no such instance, the run ended, the
+    /// instance is held, or its step was made.
     pub fn is_wanted(&self, instance: u32) -> bool
         ensures { IsTrue result ↔ IsWanted self.now instance }
     {
@@ -243,7 +243,7 @@ impl Run {
         }
     }
 
-    /// The step that is wanted of an instance, where one is ([`Run::is_wanted`]).
+    /// Returns the required step of an instance, where there is one ([`Run::is_wanted`]).
     pub fn wants(&self, instance: u32) -> Option<Want<'_>>
         ensures exactly { IsSome result ↔ IsWanted self.now instance }
         ensures want { IfSome result (IsWantOf self.now instance) }
@@ -251,7 +251,7 @@ impl Run {
         if !self.is_wanted(instance) {
             return None;
         }
-        // That there is a unit for each instance is known by the clauses of this call alone.
+        // Called for its clauses, which state that there is a unit for each instance.
         let _ = self.units.count();
         let seat = &self.seats[instance as usize];
         Some(Want {
@@ -264,33 +264,34 @@ impl Run {
         })
     }
 
-    /// Makes the step that is wanted of an instance, and keeps what it gave for [`Run::settle`].
+    /// Makes the required step of an instance, and keeps its result for [`Run::settle`].
     pub fn compute(&mut self, instance: u32)
         requires wanted { IsWanted self.old instance }
         ensures { IsComputed self.old instance self.new }
     {
-        // That there is a unit for each instance is known by the clauses of this call alone.
+        // Called for its clauses, which state that there is a unit for each instance.
         let _ = self.units.count();
         let seat = &mut self.seats[instance as usize];
         seat.slot = slot_of(self.units.do_step(instance, seat.time, seat.step));
         self.own += 1;
     }
 
-    /// Fills the empty cell of an instance with what the answer to its step tells.
+    /// Fills the empty cell of an instance with the answer to its step.
     fn fill(&mut self, instance: u32, answer: &Proven)
         requires wanted { IsWanted self.old instance }
         requires answers { IsAnswerTo self.old instance answer.now }
         ensures { self.new ≡ with_found self.old instance answer.now.answer }
     {
-        // That there is a unit for each instance is known by the clauses of this call alone.
+        // Called for its clauses, which state that there is a unit for each instance.
         let _ = self.units.count();
         let seat = &mut self.seats[instance as usize];
         seat.slot = take_step(&mut self.units, instance, answer.answer());
         self.found += 1;
     }
 
-    /// Takes what an answer tells for the step of an instance, exactly where this step is wanted: where code, state, inputs, time and
-    /// step are those of the answer's key. The row for which it was made is not asked. Where it is not taken nothing changes.
+    /// Accepts an answer as the step of an instance, exactly where it is the required step: where code, state, inputs, time and step
+    /// are those of the answer's key. The row for which the answer was made doesn't matter. Returns whether it was accepted; if not,
+    /// nothing changes.
     pub fn accept(&mut self, instance: u32, answer: &Proven) -> bool
         ensures exactly { IsTrue result ↔ IsKeyWanted self.old instance answer.now.key }
         ensures found { result ≡ true → self.new ≡ with_found self.old instance answer.now.answer }
@@ -302,21 +303,21 @@ impl Run {
         if !same_key(answer, want) {
             return false;
         }
-        // That the code is valid is known by the clauses of these calls alone.
+        // Called for their clauses, which state that the code is valid.
         let _ = want.image.code().facts();
         self.fill(instance, answer);
         true
     }
 
-    /// Goes on when all steps of the phase are there: makes the step anew where the trial asks for it, and else comes to the
-    /// next point, or to the end.
+    /// Goes on when all steps of the phase are made: to a redo where the trial requires one, and otherwise to the next point, or
+    /// to the end.
     pub fn settle(&mut self) -> Settle
         requires going { is_ended self.old.phase ≡ false }
         requires full { AreCellsFull self.old.cells }
         ensures settled { Settled self.old self.new result }
         ensures stands { Stands self.new }
     {
-        // How long the states of the units are is known by the clauses of this call alone.
+        // Called for its clauses, which state how long the states of the units are.
         let _ = self.units.count();
         let course = course_of(
             &self.plan,
@@ -361,14 +362,14 @@ impl Run {
         }
     }
 
-    /// How many steps were taken from answers of others, since the run was opened.
+    /// Returns how many steps were taken from answers of others, since the run was opened.
     pub fn found(&self) -> u64
         ensures { result ≡ self.now.found }
     {
         self.found
     }
 
-    /// How many steps the run made itself, since it was opened.
+    /// Returns how many steps the run made itself, since it was opened.
     pub fn own(&self) -> u64
         ensures { result ≡ self.now.own }
     {

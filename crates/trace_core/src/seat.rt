@@ -4,27 +4,27 @@ ghost use Rattle.trace_core.specs.Slots.{slot_for, is_empty};
 use fixed_words::Fault;
 use snap_store::SnapId;
 
-/// The step of an instance in a phase. Where it was made, the unit of the instance holds the state after it.
+/// The step of an instance in a phase. Where it was made, the unit of the instance has the state after it.
 #[derive(Clone, Copy, Debug, PartialEq, Eq)]
 pub(crate) enum Slot {
     /// The instance is held.
     Held,
-    /// The step is not there yet.
+    /// The step was not made yet.
     Empty,
     /// The step was made, and accepted so many local ticks.
     Took(u64),
-    /// The step met a fault, and moved nothing.
+    /// The step met a fault, and the state stayed.
     Failed(Fault),
 }
 
-/// Whether the step is not there yet.
+/// Returns whether the step was not made yet.
 pub(crate) fn is_empty(slot: Slot) -> bool
     ensures { result ≡ is_empty slot }
 {
     matches!(slot, Slot::Empty)
 }
 
-/// The slot of a step that was made.
+/// Returns the slot of a step that was made.
 pub(crate) fn slot_of(made: Result<u64, Fault>) -> Slot
     ensures { result ≡ slot_for made }
 {
@@ -34,15 +34,15 @@ pub(crate) fn slot_of(made: Result<u64, Fault>) -> Slot
     }
 }
 
-/// What a run keeps of an instance beside its unit: the snapshot of its committed state, the words of its inputs at the row
-/// before, the local time and the local step of the phase, and its slot.
+/// What a run keeps of an instance in addition to its unit: the snapshot of its committed state, the words of its inputs at the
+/// row before, the local time and the local step of the phase, and its slot.
 #[derive(Drop)]
 pub(crate) struct Seat {
     pub(crate) id: SnapId,
     pub(crate) before: Vec<i64>,
-    /// In local ticks.
+    /// The local time of the phase, in local ticks.
     pub(crate) time: u64,
-    /// In local ticks.
+    /// The length of its step, in local ticks.
     pub(crate) step: u64,
     pub(crate) slot: Slot,
 }

@@ -1,4 +1,4 @@
-//! What is done to all instances in turn.
+//! What is done for all instances in turn.
 ghost use Rattle.std.specs.Prelude.{◌≡◌, ◌≤◌, ◌<◌, ◌+◌, ◌^◌, length, map, zip, IfNone};
 ghost use Rattle.trace_core.specs.Seats.{AreBegun, IsBegun, HasClock, HaveClocks, IsWithin, AreWithin, AreSaved, AreAsLong, HaveOwnIds, all_told, asked, saved, slot_end, redo_slot_end, replied, slot_reply};
 ghost use Rattle.unit_tree.specs.Successor.{first_told};
@@ -12,7 +12,7 @@ use trace_plan::Plan;
 use trace_units::Units;
 use unit_tree::{Ending, Place};
 
-/// Makes a seat ready for a step of `h` from `t`.
+/// Prepares a seat for a step of `h` from `t`.
 fn begin(seat: &mut Seat, factor: u64, t: u64, h: u64)
     requires factor { 1 ≤ factor }
     requires end { t + h ≤ 10 ^ 15 }
@@ -27,7 +27,7 @@ fn begin(seat: &mut Seat, factor: u64, t: u64, h: u64)
     };
 }
 
-/// Makes all seats ready for a step of `h` from `t`: an instance is held where none of its local ticks begins in it.
+/// Prepares all seats for a step of `h` from `t`. An instance is held where none of its local ticks ends in the step.
 pub(crate) fn begin_all(plan: &Plan, seats: &mut [Seat], t: u64, h: u64)
     requires seats { length seats.old ≡ length plan.now.run.members }
     requires end { t + h ≤ 10 ^ 15 }
@@ -38,7 +38,7 @@ pub(crate) fn begin_all(plan: &Plan, seats: &mut [Seat], t: u64, h: u64)
     }
 }
 
-/// Asks each instance whose unit has a `max` for its greatest step at `t`, and proposes a step. The first fault of a `max` ends the
+/// Computes the limit at `t` of each instance whose unit has a `max`, and proposes a step. The first fault of a `max` ends the
 /// run.
 pub(crate) fn ask_limits(
     plan: &Plan,
@@ -54,7 +54,7 @@ pub(crate) fn ask_limits(
     ensures limits { length limits.new ≡ length limits.old }
 {
     let stop = plan.stop();
-    // How long the lists of the units are is known by the clauses of this call alone.
+    // Called for its clauses, which state how long the lists of the units are.
     let _ = units.count();
     let mut count = 0;
     for instance in plan.limited() {
@@ -77,7 +77,7 @@ pub(crate) fn ask_limits(
     Ok(propose(stop, plan.longest(), t, &limits[..count]))
 }
 
-/// The reply of a seat to a step of `h` from `t`, or the fault of its step.
+/// Returns the reply of a seat to a step of `h` from `t`, or the fault of its step.
 fn reply_by(seat: &Seat, factor: u64, t: u64, h: u64) -> Result<u64, Fault>
     requires factor { 1 ≤ factor }
     requires coarsest { factor ≤ 10 ^ 9 }
@@ -94,7 +94,8 @@ fn reply_by(seat: &Seat, factor: u64, t: u64, h: u64) -> Result<u64, Fault>
     }
 }
 
-/// Reads the trial of a step of `h` from `t`, of which no cell is empty: the end by the first fault, or else all replies.
+/// Reads the trial of a step of `h` from `t`, of which no cell is empty. Returns the end by the first fault; without one, writes all
+/// replies and returns `None`.
 pub(crate) fn read_trial(
     plan: &Plan,
     seats: &[Seat],
@@ -126,7 +127,7 @@ pub(crate) fn read_trial(
     None
 }
 
-/// How the step of an instance that was made anew ends the run: by its fault, or where it accepted less than it was asked.
+/// Returns how the redo of an instance ends the run, if it does: by its fault, or because it accepted less than the whole step.
 fn redo_end(instance: u32, seat: &Seat) -> Option<Ending>
     ensures { result ≡ redo_slot_end (instance, seat.now) }
 {
@@ -145,8 +146,8 @@ fn redo_end(instance: u32, seat: &Seat) -> Option<Ending>
     }
 }
 
-/// Reads a step that was made anew, of which no cell is empty: the end by the first instance that faults or accepts less than
-/// it was asked.
+/// Reads a redo, of which no cell is empty. Returns the end by the first instance that faults or accepts less than the whole
+/// step, or `None` where there is none.
 pub(crate) fn read_redo(seats: &[Seat]) -> Option<Ending>
     requires { length seats.now ≤ 64 }
     ensures { result ≡ first_told redo_slot_end seats.now }
@@ -160,7 +161,7 @@ pub(crate) fn read_redo(seats: &[Seat]) -> Option<Ending>
     None
 }
 
-/// Gives all units the committed states.
+/// Sets the states of all units to the committed states.
 pub(crate) fn restore_all(snaps: &Snaps, seats: &[Seat], units: &mut Units)
     requires saved { AreSaved snaps.now seats.now (saved snaps.now seats.now) }
     requires as_long { AreAsLong (saved snaps.now seats.now) units.old.states }
@@ -174,7 +175,7 @@ pub(crate) fn restore_all(snaps: &Snaps, seats: &[Seat], units: &mut Units)
     }
 }
 
-/// Keeps the states that the units hold as the committed ones, and the words of their inputs as those of the row before.
+/// Commits the states of the units, and keeps the words of their inputs as those of the row before.
 pub(crate) fn commit_all(snaps: &mut Snaps, seats: &mut [Seat], units: &Units)
     requires saved { AreSaved snaps.old seats.old (saved snaps.old seats.old) }
     requires own { HaveOwnIds seats.old }

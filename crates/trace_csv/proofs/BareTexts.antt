@@ -1,5 +1,4 @@
--- The texts of words call for no quotes: all their bytes are the minus sign or come behind it, and the bytes that do call
--- for quotes come before it.
+-- The texts of words need no quotes: all their bytes are the minus sign or greater, and the bytes that need quotes are less.
 use Rattle.std.proofs.Common.{◌≡◌, ◌≤◌, ◌<◌, ◌^◌, ◌++◌, ◌∷◌, [], ℕ, ℤ, zero, suc, List, Bool, true, false, take, drop, replicate, refl, ap, cond, arith, pos}
 use Rattle.std.proofs.Common.{negsuc, unsigned_abs}
 use Rattle.std.proofs.lemmas.Bool.{ne_eqb, and_parts}

@@ -12,7 +12,7 @@ use Rattle.csv.specs.declared.writer.QuoteStyle.{QuoteStyle}
 use Rattle.trace_csv.specs.Lines.{line_of}
 use Rattle.trace_csv.specs.Writers.{IsBare, quoting_in}
 
--- So many fields, as far as the writer counts.
+-- So many fields, as the writer counts them.
 abbrev pub counted : ℕ → ℕ
 counted count = min count (2 ^ 64 - 1)
 
@@ -35,7 +35,7 @@ joined quoting (first ∷ fields) field =
     separated first fields field
     ∙ ap (λ sep. join_with_byte 44 (first ∷ fields) ++ (sep ++ field)) (sym (sep_is quoting (counted (length (first ∷ fields))) (omega arith)))
 
--- One field more, where so many stand behind some text.
+-- One more field, after a text and so many fields.
 pub field_more : (quoting : QuoteStyle) (front before after field : List ℕ) (count : ℕ) (fields : List (List ℕ))
     → Some before ≡ Some (front ++ join_with_byte 44 fields) → count ≡ counted (length fields) → IsBare quoting field
     → after ≡ before ++ (next_sep (quoting_in quoting) count ++ field_text (quoting_in quoting) field)
@@ -62,17 +62,17 @@ line_ends front before after fields was is =
     let body : before ≡ front ++ join_with_byte 44 fields = cc was in
     is ∙ ap (λ text. text ++ 10 ∷ []) body ∙ append_assoc front (join_with_byte 44 fields) (10 ∷ [])
 
--- What stands behind some text.
+-- What comes after some text.
 pub behind_is : (whole front line : List ℕ) (from : ℕ) → whole ≡ front ++ line → from ≡ length front → drop from whole ≡ line
 behind_is whole front line from is many = ap (λ n. drop n whole) many ∙ ap (drop (length front)) is ∙ drop-append_seam front line
 
--- What is put into an empty vector is all that it holds.
+-- What is appended to an empty vector is all that it has.
 pub all_put : {E : Type 0} (result : Result (Unit {0}) E) (old text new line : List ℕ) → new ≡ cond (is_ok result) (old ++ text) old → old ≡ [] → text ≡ line
     → OnOk result (new ≡ line)
 all_put (Ok done) old text new line is empty same = is ∙ ap (λ front. front ++ text) empty ∙ same
 all_put (Err fault) old text new line is empty same = tt
 
--- Of two facts about a right result, each.
+-- Each of two facts about a correct result.
 pub first_on : {T E : Type 0} (A B : Type 0) (result : Result T E) → OnOk result (A × B) → OnOk result A
 first_on A B (Ok done) both = both.0
 first_on A B (Err fault) both = tt
@@ -81,7 +81,7 @@ pub second_on : {T E : Type 0} (P : List ℕ → Type 0) (now whole : List ℕ) 
 second_on P now whole (Ok done) both = subst P (sym both.0) both.1
 second_on P now whole (Err fault) both = tt
 
--- ---- One column more
+-- ---- One more column
 
 pub titles_more : {A B : Type 0} (title : A → Option B) (columns : List A) (place : ℕ) (default : A) (name : B) → place < length columns
     → title (get_or columns place default) ≡ Some name

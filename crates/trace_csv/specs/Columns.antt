@@ -1,4 +1,4 @@
--- Columns of the trace: which outputs it shows, and what they are called.
+-- Columns of the trace: which outputs it shows, and their titles.
 use Rattle.std.specs.Prelude.{ℕ, List, ◌++◌, codes, Option, slice_get, IsSome}
 use Rattle.std.specs.List.{filter_map, position_or_len}
 use Rattle.std.specs.Option.{option_map, option_and_then}
@@ -19,12 +19,12 @@ use Rattle.unit_tree.specs.declared.unit.Output.{Output}
 abbrev pub instance_number : System → PortName → ℕ
 instance_number system port = position_or_len (λ instance. bytes_eq instance.name port.instance) system.instances
 
--- The number of the output that it names, among those of the instance.
+-- The number of the output that a port names, among the outputs of the instance.
 abbrev pub output_number : System → PortName → ℕ
 output_number system port = position_or_len (λ output. bytes_eq output.name port.port) (outputs_in (unit_at system port))
 
--- The column of an output. Its numbers and its place are those in the plain form, in which an event output is the port with
--- its word.
+-- The column of an output. Its numbers and its place are those in the plain form, in which the word of an event output is a
+-- port.
 abbrev pub column_of : System → PortName → Port → Column
 column_of system port output = record {
   instance = instance_number (plain_form system) port;
@@ -34,14 +34,14 @@ column_of system port output = record {
   event = output.is_event;
 }
 
--- The columns: what is sampled, in the order of its lines, or where nothing is, all outputs by instance and by
--- declaration. An event output is one column.
+-- The columns: the sampled outputs in the order of their lines or, where nothing is sampled, all outputs by instance and
+-- by declaration. An event output is one column.
 abbrev pub columns_of : System → List Column
 columns_of system = filter_map (λ port. option_map (column_of system port) (output_at system port)) (samples_or_all system)
 
 -- ---- Titles
 
--- An output as the header has it: `instance.output`.
+-- An output's title in the header: `instance.output`.
 abbrev pub port_title : Instance → Output → List ℕ
 port_title instance output = instance.name ++ codes "." ++ output.name
 
@@ -54,7 +54,7 @@ title_in system column =
     (unit_of_instance system instance))
     (slice_get system.instances column.instance)
 
--- The same of what is run of a system.
+-- The title of a column of any system, by its plain form.
 abbrev pub title_of : System → Column → Option (List ℕ)
 title_of system column = title_in (plain_form system) column
 

@@ -20,13 +20,13 @@ use Rattle.unit_tree.specs.declared.system.System.{System}
 abbrev pub header_line : System → List Column → List ℕ
 header_line system columns = line_of (codes "time" ∷ codes "index" ∷ filter_map (title_of system) columns)
 
--- ---- A row, of the words of all outputs of what is run, by their places
+-- ---- A row, from the words of all outputs of the plain form, by their places
 
--- At an event output the word before its own tells by 0 that no event occurs.
+-- No event occurs at the event output of a column: the word before its own is 0.
 abbrev pub is_absent : List ℤ → Column → Bool
 is_absent words column = column.event && int_eq (slice_index_or words (column.place - 1) (pos 0)) (pos 0)
 
--- The field of a column: its word, and nothing where no event occurs.
+-- The field of a column: its word, or empty where no event occurs.
 abbrev pub field_of : List ℤ → Column → List ℕ
 field_of words column = if is_absent words column then [] else text_of column.ty (slice_index_or words column.place (pos 0))
 
@@ -37,7 +37,7 @@ row_fields resolution columns point words = seconds_text_of resolution point.t �
 abbrev pub row_line : ℕ → List Column → Point → List ℤ → List ℕ
 row_line resolution columns point words = line_of (row_fields resolution columns point words)
 
--- The column has a word of its type; one of an event output has a word before it.
+-- The column has a word of its type, and the column of an event output has a word before it.
 pub record HasWord (words : List ℤ) (column : Column) : Type 0 where
   pub within : column.place < length words
   pub is_word : is_word_of column.ty (slice_index_or words column.place (pos 0)) ≡ true
@@ -46,7 +46,7 @@ pub record HasWord (words : List ℤ) (column : Column) : Type 0 where
 
 -- ---- The trace
 
--- The header, and a line for each row.
+-- The text of a trace: the header, and a line for each row.
 abbrev pub trace_text : System → List Row → List ℕ
 trace_text system rows =
     header_line system (columns_of system)

@@ -10,7 +10,7 @@ use fixed_words::NoMemory;
 use std::alloc::Global;
 use unit_tree::{Checked, Column, Instance, Output, System};
 
-/// The output that a column shows, with its instance.
+/// Returns the output that a column shows, with its instance. `None` where there is no such output.
 fn shown_by<'a>(system: &'a System, column: Column) -> Option<(&'a Instance, &'a Output)>
     ensures { option_map (λ shown. port_title shown.0.now shown.1.now) result ≡ title_in system.now column }
 {
@@ -20,7 +20,7 @@ fn shown_by<'a>(system: &'a System, column: Column) -> Option<(&'a Instance, &'a
     Some((instance, output))
 }
 
-/// Puts the title of a column in the place of what `title` holds.
+/// Replaces the contents of `title` by the title of a column.
 fn write_title(system: &System, column: Column, title: &mut Vec<u8>) -> Result<(), NoMemory>
     requires { IsSome (title_in system.now column) }
     ensures { OnOk result (title_in system.now column ≡ Some title.new.items) }
@@ -34,10 +34,10 @@ fn write_title(system: &System, column: Column, title: &mut Vec<u8>) -> Result<(
     title.extend_from_slice(output.name.as_slice())
 }
 
-/// Puts the header of a trace in the place of what `out` holds: one line with `time`, `index` and the columns as
+/// Replaces the contents of `out` by the header of a trace: one line with `time`, `index` and the columns as
 /// `instance.output`. An event output has its own name.
 ///
-/// Where there is no memory `out` is empty.
+/// Where memory is refused `out` is empty.
 pub fn header_text(
     alloc: Global,
     checked: &Checked,

@@ -12,7 +12,7 @@ use std::alloc::{AllocError, Global};
 /// A writer of lines, which keeps all that it has written.
 pub(crate) type LineWriter = Writer<Vec<u8>>;
 
-/// A writer that has written nothing.
+/// Returns a writer that has written nothing.
 pub(crate) fn new_line(alloc: Global, quoting: QuoteStyle) -> LineWriter
     requires { quoting ≢ style.NonNumeric }
     ensures fresh { HasFields (λ v. Some v.items) quoting [] result [] }
@@ -24,7 +24,7 @@ pub(crate) fn new_line(alloc: Global, quoting: QuoteStyle) -> LineWriter
         .from_writer(Vec::new(alloc))
 }
 
-/// Adds a field that is written as it is.
+/// Adds a field, which is written without quotes.
 pub(crate) fn put_field(line: &mut LineWriter, field: &[u8]) -> Result<(), NoMemory>
     ensures { (quoting : QuoteStyle) → (before : List ℕ) → (fields : List (List ℕ)) → HasFields (λ v. Some v.items) quoting before line.old fields
         → IsBare quoting field.now → OnOk result (HasFields (λ v. Some v.items) quoting before line.new (fields ++ field.now ∷ [])) }
@@ -35,7 +35,7 @@ pub(crate) fn put_field(line: &mut LineWriter, field: &[u8]) -> Result<(), NoMem
     }
 }
 
-/// Ends a line of two fields or more, and writes its text out to the vector below.
+/// Ends a line of two fields or more, and flushes its text to the vector below.
 pub(crate) fn end_line(line: &mut LineWriter) -> Result<(), NoMemory>
     ensures { (quoting : QuoteStyle) → (before : List ℕ) → (fields : List (List ℕ)) → HasFields (λ v. Some v.items) quoting before line.old fields
         → 2 ≤ length fields → OnOk result (((writer_under line.new).items ≡ before ++ line_of fields) × HasFields (λ v. Some v.items) quoting (before ++ line_of fields) line.new []) }

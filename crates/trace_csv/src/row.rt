@@ -17,10 +17,10 @@ use std::alloc::Global;
 use super_time::{Point, seconds_text};
 use unit_tree::Column;
 
-/// The length of kept rows, in bytes, above which a writer of rows begins anew with the next one.
+/// The length of kept rows, in bytes, above which a writer of rows starts afresh with the next row.
 const KEPT: usize = 16_384;
 
-/// Adds the time and the index of a point. `text` and `digits` are room for the text of a field.
+/// Adds the time and the index of a point. `text` and `digits` are buffers for the text of a field.
 fn put_point(
     line: &mut LineWriter,
     text: &mut Vec<u8>,
@@ -38,7 +38,7 @@ fn put_point(
     put_field(line, digits.format(point.n).as_bytes())
 }
 
-/// Adds a word of the type. Integers, which need no memory, go by way of `digits`.
+/// Adds a word of the type. Integers are formatted in `digits` and take no memory.
 fn put_word(
     line: &mut LineWriter,
     text: &mut Vec<u8>,
@@ -80,7 +80,7 @@ fn put_column(
     put_word(line, text, digits, column.ty, ports[place])
 }
 
-/// Adds the fields of a row. `text` is room for the text of one field.
+/// Adds the fields of a row. `text` is a buffer for the text of one field.
 fn put_fields(
     line: &mut LineWriter,
     text: &mut Vec<u8>,
@@ -94,7 +94,7 @@ fn put_fields(
     ensures { (before : List ℕ) → HasFields (λ v. Some v.items) style.Necessary before line.old []
         → OnOk result (HasFields (λ v. Some v.items) style.Necessary before line.new (row_fields resolution columns.now point ports.now)) }
 {
-    // One for all fields, since it is cleared when it is made.
+    // One buffer for all fields, since it is cleared when it is made.
     let mut digits = Buffer::new();
     put_point(line, text, &mut digits, resolution, point)?;
     for column in columns {
@@ -103,7 +103,7 @@ fn put_fields(
     Ok(())
 }
 
-/// Writes a row behind what the writer has written. `text` is room for the text of one field.
+/// Writes a row after what the writer has written. `text` is a buffer for the text of one field.
 fn put_row(
     line: &mut LineWriter,
     text: &mut Vec<u8>,
@@ -122,8 +122,8 @@ fn put_row(
     end_line(line)
 }
 
-/// Puts a writer that has written nothing in the place of one. It stands by itself, since a function clears the room of its locals
-/// whenever it is called, and a writer has a buffer of 8,192 bytes.
+/// Replaces a writer by one that has written nothing. It is a function of its own, since a function clears the space of its
+/// locals whenever it is called, and a writer has a buffer of 8,192 bytes.
 #[cold]
 #[inline(never)]
 fn begin_anew(alloc: Global, line: &mut LineWriter)
@@ -133,8 +133,8 @@ fn begin_anew(alloc: Global, line: &mut LineWriter)
     *line = new_line(alloc, QuoteStyle::Necessary);
 }
 
-/// A writer of rows, which makes many with one writer of `csv`, since such a writer has a buffer of 8,192 bytes to clear. What
-/// it has written can't be taken out of it: so it keeps the rows that it made, until they are long, and begins anew.
+/// A writer of rows, which makes many rows with one writer of `csv`, since such a writer has a buffer of 8,192 bytes to clear.
+/// The written text can't be taken out of the `csv` writer. So it keeps the rows until they are long, and then starts afresh.
 #[derive(Drop)]
 pub struct RowWriter {
     alloc: Global,
@@ -143,7 +143,7 @@ pub struct RowWriter {
 }
 
 impl RowWriter {
-    /// A writer that has written nothing. It takes no memory yet; `alloc` is where its room comes from later.
+    /// Returns a writer that has written nothing. It takes no memory yet: `alloc` is where its memory comes from later.
     pub fn new(alloc: Global) -> RowWriter {
         RowWriter {
             alloc,
@@ -151,8 +151,8 @@ impl RowWriter {
         }
     }
 
-    /// Puts a row of a trace in the place of what `out` holds, as [`row_text`] does. Where there is no memory `out` is empty,
-    /// and the writer may be used again.
+    /// Replaces the contents of `out` by a row of a trace, as [`row_text`] does. Where memory is refused `out` is empty, and the
+    /// writer may be used again.
     pub fn row_text(
         &mut self,
         resolution: u8,
@@ -170,7 +170,7 @@ impl RowWriter {
             begin_anew(self.alloc, &mut self.line);
         }
         let from = self.line.get_ref().len();
-        // Until the row is whole, `out` is room for the text of each field.
+        // Until the row is complete, `out` is the buffer for the text of each field.
         let written = put_row(&mut self.line, out, resolution, point, columns, ports);
         out.clear();
         if written.is_err() {
@@ -181,11 +181,11 @@ impl RowWriter {
     }
 }
 
-/// Puts a row of a trace in the place of what `out` holds: one line with the time of the point in seconds, its index and
-/// the words of the columns. `ports` has the words of all outputs by their places, `resolution` the decimals of a tick.
+/// Replaces the contents of `out` by a row of a trace: one line with the time of the point in seconds, its index and the words
+/// of the columns. `ports` has the words of all outputs by their places. `resolution` is the number of decimals of a tick.
 ///
-/// The field of an event output is empty where the word before its own tells that no event occurs. Where there is no
-/// memory `out` is empty.
+/// The field of an event output is empty where the word before its own is 0, which means that no event occurs. Where memory
+/// is refused `out` is empty.
 pub fn row_text(
     alloc: Global,
     resolution: u8,

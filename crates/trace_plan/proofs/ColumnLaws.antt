@@ -83,7 +83,7 @@ module _ (outlet : Outlet) (word : ℤ) where
       get_fits outlet.standing.0.component outlet.standing.1 words outlet.output word
       (ok_by (get_of outlet.standing.0.component outlet.standing.1 words outlet.output) word is)
 
--- What the type of a place says of the word there.
+-- The word at a place has the type of the place.
 module _ (run : Composition) (states : List (List ℤ)) (ports : Ports) (each_state : length states ≡ length run.members)
     (assigned : IsAssignment run states ports) (all : list_all is_some ports ≡ true) where
   abbrev words : List ℤ

@@ -1,4 +1,4 @@
--- Columns that are put one after the other, and the numbers of one.
+-- Columns that are added one after the other, and the numbers of one.
 use Rattle.std.proofs.Common.{◌≡◌, ◌<◌, ◌^◌, ℕ, ◌+◌, Bool, List, [], ◌∷◌, ◌++◌, map, drop, get_or, length, Option, Some, None, refl, ap, sym, subst, ◌∙◌}
 use Rattle.std.proofs.Common.{append_assoc, append-nil}
 use Rattle.std.proofs.lemmas.Option.{get_or_from_slice_get, slice_get_within, same_Some}
@@ -86,7 +86,7 @@ module _ (system : System) (starts : List ℕ) (port : PortName) (placed : IsPla
   pub number_low : number < 64
   number_low = subst (λ n. n < 64) (sym number_is) placed.few_instances
 
--- What is lent is there where its value is.
+-- A lent element exists where its value does.
 pub some_there : {A B : Type 0} (f : A → B) (given : Option A) (value : B) → option_map f given ≡ Some value → IsSome given
 some_there f None value is = absurd (cc)
 some_there f (Some x) value is = refl

@@ -1,4 +1,4 @@
--- What is worked out for one instance after the other is what the members ask.
+-- What is computed for one instance after the other is what the members need.
 use Rattle.std.proofs.Common.{◌≡◌, ◌≤◌, ◌^◌, ◌-◌, ℕ, zero, suc, ◌+◌, ◌<◌, ℤ, pos, List, [], ◌∷◌, ◌++◌, length, map, drop, get_or, true, Some, None, refl, ap}
 use Rattle.std.proofs.Common.{sym, subst, ◌∙◌, arith, append_assoc, append-nil}
 use Rattle.std.proofs.lemmas.List.{length-map}
@@ -87,7 +87,7 @@ fits_for system instance unit fitted is image factor least coarsest low high = r
 abbrev pub members_from : System → List Instance → List Member
 members_from system instances = filter_map (λ instance. member_with system instance (unit_of_instance system instance)) instances
 
--- What is there belongs to the instances before some place: with what belongs to those from there on, it is all.
+-- The elements so far are those of the instances before some place. With those of the instances from there on, they are all.
 abbrev pub IsFront : System → List Instance → ℕ → List Fitted → Type 0
 IsFront system instances place all =
     (rest : List Fitted) → AllZip IsFitted (members_from system (drop place instances)) rest → AllZip IsFitted (members_from system instances) (all ++ rest)

@@ -50,7 +50,7 @@ module _ (system : System) where
       let later = start_least instances (count + output_count (unit_of_instance system first)) n start is in
       omega (arith, later)
 
-  -- Lists that have as many for each instance as this has outputs.
+  -- Lists with as many elements for each instance as it has outputs.
   module _ {A : Type 0} (f : Instance → List A) (same : (instance : Instance) → length (f instance) ≡ output_count (unit_of_instance system instance)) where
     at_start : (instances : List Instance) (count n k start d : ℕ) (instance : Instance) (y : A) → slice_get instances n ≡ Some instance
         → slice_get (starts_from system count instances) n ≡ Some start → start ≡ count + d → slice_get (f instance) k ≡ Some y

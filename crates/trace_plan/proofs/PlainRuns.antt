@@ -1,4 +1,4 @@
--- What is run of a judged system has its numbers within their bounds.
+-- The numbers of the plain form of a judged system are within their bounds.
 use Rattle.std.proofs.Common.{◌≡◌, ◌≤◌, ◌^◌, ℕ, ◌+◌, Bool, true, false, cond, List, [], ◌∷◌, map, length, Option, Some, None, refl, ap, sym, subst, ◌∙◌, arith}
 use Rattle.std.proofs.lemmas.Bool.Decides.{nat_tests}
 use Rattle.std.proofs.lemmas.Nat.{le-div}
@@ -185,7 +185,7 @@ module _ (system : System) (ranged : IsRanged system) (kept : IsWellFormed syste
         members = omega (arith, count, few_instances system kept);
       }
 
-  -- Numbers that were worked out of the plain form are those of the run.
+  -- Numbers that were computed from the plain form are those of the run.
   pub numbers_are : (made : System) (numbers : Numbers) → made ≡ plain
       → numbers.resolution ≡ resolution_of made → numbers.stop ≡ ticks_or 0 (resolution_of made) made.stop
       → numbers.longest ≡ ticks_or (ticks_or 0 (resolution_of made) made.stop) (resolution_of made) made.longest
@@ -203,7 +203,7 @@ module _ (system : System) (ranged : IsRanged system) (kept : IsWellFormed syste
         rows = rows ∙ ap (λ (s : System). unwrap_or s.rows (default_rows s.version (length s.instances))) is;
       }
 
-  -- What the plain form has, as the code asks it.
+  -- The plain form, as the code has it.
   module _ (made : System) (is : made ≡ plain) (resolution : ℕ) (resolution_is : resolution ≡ resolution_of made) where
     pub plain_low : resolution ≤ 9
     plain_low = subst (λ r. r ≤ 9) (sym (resolution_is ∙ ap resolution_of is ∙ both.resolution)) (resolution_low system ranged)

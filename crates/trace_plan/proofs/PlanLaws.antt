@@ -1,4 +1,4 @@
--- What a plan has for an instance is what its member asks.
+-- What a plan has for an instance is what its member needs.
 use Rattle.std.proofs.Common.{◌≡◌, ◌≤◌, ◌^◌, ℕ, ◌<◌, length, get_or, Some, ◌∙◌, ap, sym, subst, arith}
 use Rattle.std.proofs.lemmas.List.{length-map}
 use Rattle.std.proofs.lemmas.Option.{get_or_from_slice_get, slice_get-map}

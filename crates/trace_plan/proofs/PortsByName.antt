@@ -95,7 +95,7 @@ pub ports_are : (system : System) (instance : Instance) (unit : Unit) → unit_o
 ports_are system instance unit is = ap (λ given. map (λ (output : Port). port_of instance output.name) (outputs_in given)) is
     ∙ called_by instance unit.outputs unit.events_out
 
--- The plain outputs of an instance were put behind some, and then its event outputs.
+-- The plain outputs of an instance were appended, and then its event outputs.
 pub both_put : (system : System) (instance : Instance) (unit : Unit) → unit_of_instance system instance ≡ Some unit
     → (name : List ℕ) (outputs : List Output) (events : List EventOut) → name ≡ instance.name → outputs ≡ unit.outputs → events ≡ unit.events_out
     → (before between after : List PortName) → between ≡ before ++ outputs_called name outputs → after ≡ between ++ events_called name events

@@ -1,4 +1,4 @@
--- An output of a judged system, and what it is in what is run of it.
+-- An output of a judged system, and the output of the plain form that it is.
 use Rattle.std.proofs.Common.{◌≡◌, ◌≤◌, ◌<◌, ℕ, zero, suc, ◌+◌, ◌*◌, true, false, cond, ℤ, pos, List, [], ◌∷◌, ◌++◌, map, length, Option, Some, None, inl, inr}
 use Rattle.std.proofs.Common.{refl, ap, sym, subst, ◌∙◌, arith}
 use Rattle.std.proofs.lemmas.List.{length-map}
@@ -36,10 +36,10 @@ use Rattle.trace_plan.proofs.SystemLines.{few_instances}
 use Rattle.list_laws.proofs.Members.{Has, Distinct, has_front, has_map, each_has, has_place}
 use Rattle.list_laws.proofs.Truths.{one_or_two}
 
--- ---- What an output is in what is run
+-- ---- The output in the plain form
 
 module _ (run : System) (plain : HasNoEvents run) (differ : NamesDiffer run) where
-  -- The output that is run for a port, and where it stands. That with an event's word is not the first of its unit.
+  -- The output of the plain form for a port, and its place. The output with an event's word is not the first of its unit.
   pub record Shown (port : PortName) (output : Port) : Type 0 where
     pub instance : Instance
     pub unit : Unit
@@ -58,7 +58,7 @@ module _ (system : System) (ranged : IsRanged system) (kept : IsWellFormed syste
   abbrev apart : PortsDiffer system
   apart = ports_differ system kept
 
-  -- The declaration of a port that is there.
+  -- The declaration of a port that exists.
   declared_port : (port : PortName) (output : Port) → output_at system port ≡ Some output → (d : Declared system port) × (d.output ≡ output)
   declared_port port output is =
       let d = declared system port (has_in (outputs_of system) port (output_has system port (ap is_none is))) in
@@ -108,7 +108,7 @@ module _ (system : System) (ranged : IsRanged system) (kept : IsWellFormed syste
   abbrev differ : NamesDiffer plain
   differ = plain_names_differ system ranged kept
 
-  -- The word of an event is no first output: before it stands what tells of an event.
+  -- The word of an event is not a first output: the output before it says whether the event occurs.
   first_by : (unit : Unit) (port : Port) (made : Output) → Has system.units unit → Has (output_ports unit) port → port.is_event ≡ true → made.name ≡ port.name
       → (outputs : List Output) (events : List EventOut) → unit.outputs ≡ outputs → unit.events_out ≡ events → (others : List Output)
       → map (plain_output unit) outputs ++ flat_map (plain_outputs unit) events ≡ made ∷ others → ⊥
@@ -158,7 +158,7 @@ module _ (system : System) (ranged : IsRanged system) (kept : IsWellFormed syste
 
 -- ---- Both versions
 
--- What is run for a port of the system, and where it stands there.
+-- The output of the plain form for a port of the system, and its place there.
 pub record ShownOf (run : System) (port : PortName) (output : Port) : Type 0 where
   pub no_events : HasNoEvents run
   pub differ : NamesDiffer run
@@ -186,7 +186,7 @@ module _ (system : System) (ranged : IsRanged system) (kept : IsWellFormed syste
 
   -- ---- How many there are
 
-  -- What is compiled of a unit of the run.
+  -- How a unit of the run is compiled.
   pub record Limited (unit : Unit) : Type 0 where
     pub outputs : length unit.outputs ≤ 32
     pub decimals : AllByRecursion (λ (output : Output). AreDecimals output.ty) unit.outputs
@@ -208,7 +208,7 @@ module _ (system : System) (ranged : IsRanged system) (kept : IsWellFormed syste
   pub run_instances : length run.instances ≤ 64
   run_instances = subst (λ instances. length instances ≤ 64) (sym (alike system).instances) (few_instances system kept)
 
-  -- Starts grow by 32 at most.
+  -- Each instance adds at most 32 to the starts.
   starts_low : (instances : List Instance) (count n start : ℕ) → slice_get (starts_from run count instances) n ≡ Some start → start ≤ count + 32 * n
   starts_low [] count n start is = absurd (cc)
   starts_low (first ∷ instances) count zero start is = let same : count ≡ start = cc in omega (arith, same)

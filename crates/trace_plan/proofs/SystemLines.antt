@@ -1,4 +1,4 @@
--- What the rules and the ranges say of single lines of a system that is in range and well-formed.
+-- The consequences of the rules and the ranges for single lines of a system that is in range and well-formed.
 use Rattle.std.proofs.Common.{◌≡◌, ◌≤◌, ℕ, ◌+◌, false, List, [], ◌∷◌, ◌++◌, map, length, Option, Some, None, inl, inr, refl, ap, subst, ◌∙◌, arith}
 use Rattle.std.proofs.lemmas.Bool.Decides.{nat_tests}
 use Rattle.std.proofs.lemmas.Grind.{flat_map-append}
@@ -29,7 +29,7 @@ use Rattle.language_laws.proofs.SiteLaws.{line_at, sites_are}
 use Rattle.list_laws.proofs.Members.{Has, has_front, has_behind, each_has}
 use Rattle.list_laws.proofs.Truths.{not_false, lt_not_told}
 
--- ---- A rule that looks at the line alone
+-- ---- A rule that depends only on the line
 
 mapped : (Q : LineForm → Type 0) (all : List Site) → AllByRecursion (λ site. Q site.line) all → AllByRecursion Q (map line_at all)
 mapped Q [] each = tt
@@ -66,7 +66,7 @@ module _ (system : System) where
   top_line : (part : Part) (line : LineForm) → Has (canonical_parts system) part → Has (part_forms part) line → Has (canonical_forms system) line
   top_line part line has inside = inr (has_flat part_forms (canonical_parts system) part line has inside)
 
-  -- A part that is there, behind others and before others.
+  -- A part that exists, after others and before others.
   given_has : {A : Type 0} (part : A → Part) (given : Option A) (one : A) → given ≡ Some one → Has (optional part given) (part one)
   given_has part None one is = absurd (cc)
   given_has part (Some other) one is = let same : other ≡ one = cc in inl (ap part same)

@@ -1,4 +1,4 @@
--- Why there is no plan of a system.
+-- Why a system has no plan.
 use Rattle.std.specs.Prelude.{⊤}
 use Rattle.trace_plan.specs.declared.fault.PlanFault.{PlanFault}
 use Rattle.trace_plan.specs.declared.fault.PlanFault.TheVariants.{Loop, NoMemory}
@@ -6,7 +6,7 @@ use Rattle.unit_tree.specs.declared.system.System.{System}
 use Rattle.wire_graph.specs.Faults.{IsRightFault}
 use Rattle.wire_graph.specs.declared.fault.OrderFault.TheVariants as order
 
--- The numbers of a loop name the first output of the plain form that has no order. Want of memory is free.
+-- A loop is right where its numbers name the first output of the plain form without an order. Lack of memory is always allowed.
 abbrev pub IsRightPlanFault : System → PlanFault → Type 0
 IsRightPlanFault system (Loop instance output) = IsRightFault system (order.Loop instance output)
 IsRightPlanFault system NoMemory = ⊤

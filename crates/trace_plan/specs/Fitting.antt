@@ -1,4 +1,4 @@
--- What is worked out for one instance.
+-- What is computed for one instance.
 use Rattle.std.specs.Prelude.{◌≡◌, ℕ, Bool, List, slice_get, is_some, Some}
 use Rattle.std.specs.List.{AllByRecursion}
 use Rattle.trace_plan.specs.Keeps.{IsFitted}
@@ -11,13 +11,13 @@ use Rattle.unit_tree.specs.declared.system.Instance.{Instance}
 use Rattle.unit_tree.specs.declared.system.System.{System}
 use Rattle.unit_tree.specs.declared.unit.Unit.{Unit}
 
--- The unit of a number is the first one of the name.
+-- The number is that of the first unit of the name.
 pub record IsUnitNamed (units : List Unit) (name : List ℕ) (number : ℕ) : Type 0 where
   pub unit : Unit
   pub at : slice_get units number ≡ Some unit
   pub is : unit_named units name ≡ Some unit
 
--- The instance of a system without event ports is fitted out as the member that it is.
+-- What the instance of a system without event ports needs is that of its member.
 pub record IsFittedFor (system : System) (instance : Instance) (fitted : Fitted) : Type 0 where
   pub member : Member
   pub is : member_with system instance (unit_of_instance system instance) ≡ Some member
@@ -27,6 +27,6 @@ pub record IsFittedFor (system : System) (instance : Instance) (fitted : Fitted)
 abbrev pub AreImagesOf : System → List Made → Type 0
 AreImagesOf system made = AllByRecursion (λ (one : Made). IsCompiled system one.unit one.params.items one.image.value) made
 
--- The code of what is fitted out tells a greatest step.
+-- The code of the instance computes a limit.
 abbrev pub tells_max : Fitted → Bool
 tells_max fitted = is_some fitted.image.value.program.limit

@@ -1,4 +1,4 @@
--- What a plan keeps.
+-- The invariants of a plan.
 use Rattle.std.specs.Prelude.{◌≡◌, ◌≤◌, ◌^◌, map}
 use Rattle.std.specs.List.{AllZip}
 use Rattle.model_rules.specs.Limits.{decimals_limit}
@@ -16,8 +16,8 @@ use Rattle.unit_tree.specs.declared.system.System.{System}
 abbrev pub planned : Inside → Planned
 planned plan = record { system = plan.checked; run = run_of plan.checked }
 
--- An instance is fitted out as a member: its image is the component's, its factor is the member's, from 1 to 10^9, and its ends
--- are those of the words of the inputs.
+-- An instance has what its member needs: the image of its component, its factor, from 1 to 10^9, and the lowest and highest
+-- words of its inputs.
 pub record IsFitted (member : Member) (fitted : Fitted) : Type 0 where
   pub image : IsImageOf member.component fitted.image.value
   pub factor : fitted.factor ≡ member.factor

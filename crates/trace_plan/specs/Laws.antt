@@ -13,16 +13,16 @@ use Rattle.unit_tree.specs.declared.system.System.{System}
 abbrev pub HasTitles : System → Type 0
 HasTitles system = AllByRecursion (IsOutput system) (columns_of system)
 
--- A row can be printed at any states, one for each member, where all outputs have words: each column has one of its type.
+-- At any states, one for each member, where all outputs have words, each column has a word of its type. So a row can be printed.
 abbrev pub HasRows : System → Type 0
 HasRows system =
     (states : List (List ℤ)) (ports : Ports) → length states ≡ length (run_of system).members → IsAssignment (run_of system) states ports
     → list_all is_some ports ≡ true → AllByRecursion (HasWord (filter_map (λ word. word) ports)) (columns_of system)
 
--- A system in range that is well-formed has its header.
+-- The header of a system that is in range and well-formed can be printed.
 abbrev pub HeadersCanBePrinted : Type 0
 HeadersCanBePrinted = (system : System) → IsRanged system → IsWellFormed system → HasTitles system
 
--- It has its rows.
+-- So can its rows.
 abbrev pub RowsCanBePrinted : Type 0
 RowsCanBePrinted = (system : System) → IsRanged system → IsWellFormed system → HasRows system

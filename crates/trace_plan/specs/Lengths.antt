@@ -1,4 +1,4 @@
--- Lengths of a run that were judged.
+-- Judged lengths of a run.
 use Rattle.std.specs.Prelude.{◌≡◌, ◌≤◌, ◌^◌, ℕ, unwrap_or, Ok}
 use Rattle.fixed_words.specs.declared.types.Literal.{Literal}
 use Rattle.super_time.specs.Seconds.{ticks_in, seconds_of, AreDecimalsOf}

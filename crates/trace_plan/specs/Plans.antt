@@ -6,12 +6,12 @@ use Rattle.unit_exec.specs.Images.{Compiled, IsImageOf}
 use Rattle.unit_tree.specs.Compositions.{Member, Composition}
 use Rattle.unit_tree.specs.declared.system.System.{System}
 
--- A system, and what is run of it.
+-- A system, and the run of its plain form.
 pub record Planned : Type 0 where
   pub system : System
   pub run : Composition
 
--- How large the numbers of a run may be.
+-- The bounds of the numbers of a run.
 pub record IsBounded (run : Composition) : Type 0 where
   pub stop : run.stop ≤ 10 ^ 15
   pub longest : run.longest ≤ 10 ^ 15
@@ -21,7 +21,7 @@ pub record IsBounded (run : Composition) : Type 0 where
   pub some_member : 1 ≤ length run.members
   pub members : length run.members ≤ instance_limit
 
--- The fact holds of the member that an instance's number tells.
+-- The fact holds of the member with this number.
 abbrev pub ForMember : Composition → ℕ → (Member → Type 0) → Type 0
 ForMember run instance Holds = (member : Member) → slice_get run.members instance ≡ Some member → Holds member
 
@@ -40,7 +40,7 @@ lowest_words member = map (λ input. lowest input.ty) member.component.unit.inpu
 abbrev pub highest_words : Member → List ℤ
 highest_words member = map (λ input. highest input.ty) member.component.unit.inputs
 
--- The places, counted from this one, at which a list has `true`.
+-- The places at which a list has `true`. The first element has the place that is given.
 abbrev pub places_from : ℕ → List Bool → List ℕ
 places_from place [] = []
 places_from place (so ∷ rest) = if so then place ∷ places_from (suc place) rest else places_from (suc place) rest
@@ -49,6 +49,6 @@ places_from place (so ∷ rest) = if so then place ∷ places_from (suc place) r
 abbrev pub has_max : Member → Bool
 has_max member = is_some member.component.unit.max
 
--- The numbers of the instances whose units have one, in their order.
+-- The numbers of the instances whose units have a `max`, in their order.
 abbrev pub limited_in : Composition → List ℕ
 limited_in run = places_from 0 (map has_max run.members)

@@ -1,4 +1,4 @@
--- Outputs of what is run, by their numbers and places.
+-- Outputs of the plain form, by their numbers and places.
 use Rattle.std.specs.Prelude.{◌≡◌, Bool, ℕ, ◌+◌, ◌≤◌, ◌<◌, ◌^◌, List, [], ◌∷◌, map, length, Option, Some, None, slice_get}
 use Rattle.std.specs.List.{position_or_len}
 use Rattle.std.specs.Str.{bytes_eq}
@@ -17,12 +17,12 @@ use Rattle.unit_tree.specs.declared.unit.Output.{Output}
 use Rattle.unit_tree.specs.declared.unit.Unit.{Unit}
 use Rattle.wire_graph.specs.Wiring.{port_named}
 
--- How many outputs a unit has, where it is declared. It has no event ports.
+-- How many outputs a unit without event ports has, where it is declared.
 abbrev pub output_count : Option Unit → ℕ
 output_count None = 0
 output_count (Some unit) = length unit.outputs
 
--- The place of the first output of each instance, behind so many outputs.
+-- The place of the first output of each instance, after so many outputs.
 abbrev pub starts_from : System → ℕ → List Instance → List ℕ
 starts_from system count [] = []
 starts_from system count (instance ∷ instances) =
@@ -32,8 +32,8 @@ starts_from system count (instance ∷ instances) =
 abbrev pub FewOutputs : System → Type 0
 FewOutputs system = (instance : Instance) → output_count (unit_of_instance system instance) ≤ output_limit
 
--- The port names an output of the system: its instance is there with a unit, and its place is that many behind the first one
--- of its instance.
+-- The port names an output of the system: its instance has a unit, and its place is that of the first output of the instance
+-- plus its number.
 pub record IsPlaced (system : System) (starts : List ℕ) (port : PortName) : Type 0 where
   pub instance : Instance
   pub unit : Unit
@@ -57,7 +57,7 @@ plain_column system port ty event = record {
   event = event;
 }
 
--- The outputs of an instance by its name, plain ones and event outputs.
+-- The plain outputs and the event outputs of an instance, under its name.
 abbrev pub outputs_called : List ℕ → List Output → List PortName
 outputs_called instance outputs = map (λ output. port_named instance output.name) outputs
 

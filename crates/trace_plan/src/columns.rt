@@ -1,4 +1,4 @@
-//! The columns of the trace, by the numbers of their outputs in what is run.
+//! The columns of the trace, by the numbers of their outputs in the plain form of the system.
 ghost use Rattle.std.specs.Prelude.{◌≡◌, ◌≤◌, ◌++◌, [], Bool, length, map, IfOk, OnOk};
 ghost use Rattle.std.specs.List.{position_or_len, find, cons_option};
 ghost use Rattle.std.specs.Option.{option_map};
@@ -43,7 +43,7 @@ fn put_events<'a>(
     Ok(())
 }
 
-/// Adds all outputs of an instance, event outputs behind the plain ones. One whose unit is not declared has none.
+/// Adds all outputs of an instance, plain outputs first, then event outputs. An instance of an undeclared unit has none.
 fn put_all<'a>(
     system: &'a System,
     instance: &'a Instance,
@@ -60,7 +60,7 @@ fn put_all<'a>(
     Ok(())
 }
 
-/// All outputs of a system, by instance and by declaration.
+/// Returns all outputs of a system, by instance and by declaration.
 fn all_outputs<'a>(alloc: Global, system: &'a System) -> Result<Vec<PortKey<'a>>, NoMemory>
     ensures { IfOk result (λ ports. map port_with ports.items ≡ outputs_of system.now) }
 {
@@ -71,7 +71,7 @@ fn all_outputs<'a>(alloc: Global, system: &'a System) -> Result<Vec<PortKey<'a>>
     Ok(ports)
 }
 
-/// The ports that are sampled.
+/// Returns the sampled ports.
 fn sampled<'a>(alloc: Global, samples: &'a [PortName]) -> Result<Vec<PortKey<'a>>, NoMemory>
     ensures { IfOk result (λ ports. map port_with ports.items ≡ samples.now) }
 {
@@ -82,7 +82,7 @@ fn sampled<'a>(alloc: Global, samples: &'a [PortName]) -> Result<Vec<PortKey<'a>
     Ok(ports)
 }
 
-/// The ports that the trace shows: what is sampled, or all outputs where nothing is.
+/// Returns the ports that the trace shows: the sampled ones, or all outputs where nothing is sampled.
 fn shown_ports<'a>(alloc: Global, system: &'a System) -> Result<Vec<PortKey<'a>>, NoMemory>
     ensures { IfOk result (λ ports. map port_with ports.items ≡ samples_or_all system.now) }
 {
@@ -92,7 +92,7 @@ fn shown_ports<'a>(alloc: Global, system: &'a System) -> Result<Vec<PortKey<'a>>
     }
 }
 
-/// The number of the first instance of a name; how many there are where it has none.
+/// Returns the number of the first instance of a name, or the number of instances where none has the name.
 fn instance_number(instances: &[Instance], name: &[u8]) -> usize
     ensures { result ≡ position_or_len (λ instance. bytes_eq instance.name name.now) instances.now }
 {
@@ -104,7 +104,7 @@ fn instance_number(instances: &[Instance], name: &[u8]) -> usize
     instances.len()
 }
 
-/// The number of the first output of a name; how many there are where it has none.
+/// Returns the number of the first output of a name, or the number of outputs where none has the name.
 fn output_number(outputs: &[Output], name: &[u8]) -> usize
     ensures { result ≡ position_or_len (λ output. bytes_eq output.name name.now) outputs.now }
 {
@@ -116,7 +116,7 @@ fn output_number(outputs: &[Output], name: &[u8]) -> usize
     outputs.len()
 }
 
-/// The first instance of a name.
+/// Returns the first instance of a name, or `None` where there is none.
 fn instance_named<'a>(system: &'a System, name: &[u8]) -> Option<&'a Instance>
     ensures { option_map (λ instance. instance.now) result ≡ instance_named system.now name.now }
 {
@@ -128,7 +128,7 @@ fn instance_named<'a>(system: &'a System, name: &[u8]) -> Option<&'a Instance>
     None
 }
 
-/// The type of the first plain output of a name.
+/// Returns the type of the first plain output of a name, or `None` where there is none.
 fn output_type(outputs: &[Output], name: &[u8]) -> Option<Ty>
     ensures { result ≡ option_map (λ output. output.ty) (find (λ output. bytes_eq output.name name.now) outputs.now) }
 {
@@ -140,7 +140,7 @@ fn output_type(outputs: &[Output], name: &[u8]) -> Option<Ty>
     None
 }
 
-/// The type of the first event output of a name.
+/// Returns the type of the first event output of a name, or `None` where there is none.
 fn event_type(events: &[EventOut], name: &[u8]) -> Option<Ty>
     ensures { result ≡ option_map (λ event. event.ty) (find (λ event. bytes_eq event.name name.now) events.now) }
 {
@@ -152,7 +152,7 @@ fn event_type(events: &[EventOut], name: &[u8]) -> Option<Ty>
     None
 }
 
-/// The type of the output of a name, and whether it is an event output.
+/// Returns the type of the output of a name, and whether it is an event output. `None` where there is no such output.
 fn declared_in(unit: &Unit, name: &[u8]) -> Option<(Ty, bool)>
     ensures { result ≡ option_map type_and_event (named_port (output_ports unit.now) name.now) }
 {
@@ -165,7 +165,7 @@ fn declared_in(unit: &Unit, name: &[u8]) -> Option<(Ty, bool)>
     }
 }
 
-/// The same of the output that a port names.
+/// Returns the type of the output that a port names, and whether it is an event output. `None` where there is no such output.
 fn declared_at(system: &System, instance: &[u8], port: &[u8]) -> Option<(Ty, bool)>
     ensures { result ≡ option_map type_and_event (output_at system.now (port_named instance.now port.now)) }
 {
@@ -174,7 +174,7 @@ fn declared_at(system: &System, instance: &[u8], port: &[u8]) -> Option<(Ty, boo
     declared_in(unit, port)
 }
 
-/// How many outputs a unit has, where it is declared.
+/// Returns how many outputs a unit has, where it is declared.
 fn output_count(unit: Option<&Unit>) -> u32
     requires { output_count (option_map (λ unit. unit.now) unit) ≤ 32 }
     ensures { result ≡ output_count (option_map (λ unit. unit.now) unit.entry) }
@@ -185,7 +185,7 @@ fn output_count(unit: Option<&Unit>) -> u32
     }
 }
 
-/// The place of the first output of each instance.
+/// Returns the place of the first output of each instance.
 fn starts(alloc: Global, system: &System) -> Result<Vec<u32>, NoMemory>
     requires instances { length system.now.instances ≤ 64 }
     requires outputs { FewOutputs system.now }
@@ -200,7 +200,7 @@ fn starts(alloc: Global, system: &System) -> Result<Vec<u32>, NoMemory>
     Ok(starts)
 }
 
-/// The column of an output of what is run.
+/// Returns the column of an output of the plain form.
 fn placed(system: &System, starts: &[u32], port: PortKey<'_>, ty: Ty, event: bool) -> Column
     requires { IsPlaced system.now starts.now (port_with port) }
     ensures { result ≡ plain_column system.now (port_with port.entry) ty event }
@@ -218,7 +218,7 @@ fn placed(system: &System, starts: &[u32], port: PortKey<'_>, ty: Ty, event: boo
     }
 }
 
-/// The column of a port, where this is an output.
+/// Returns the column of a port, where the port is an output.
 fn column(checked: &Checked, starts: &[u32], port: PortKey<'_>) -> Option<Column>
     requires { starts.now ≡ starts_from (plain_form checked.now) 0 (plain_form checked.now).instances }
     ensures { result ≡ option_map (column_of checked.now (port_with port.entry)) (output_at checked.now (port_with port.entry)) }
@@ -237,8 +237,8 @@ fn put_if(column: Option<Column>, columns: &mut Vec<Column>) -> Result<(), NoMem
     Ok(())
 }
 
-/// The columns of a checked system: what is sampled, in the order of its lines, or where nothing is, all outputs by instance
-/// and by declaration.
+/// Returns the columns of a checked system: the sampled outputs in the order of their lines or, where nothing is sampled, all
+/// outputs by instance and by declaration.
 pub(crate) fn columns(alloc: Global, checked: &Checked) -> Result<Vec<Column>, NoMemory>
     ensures { IfOk result (λ columns. columns.items ≡ columns_of checked.now) }
 {

@@ -2,11 +2,11 @@ use fixed_words::NoMemory;
 use thiserror::Error;
 use wire_graph::OrderFault;
 
-/// Why there is no plan of a system.
+/// Why a system has no plan.
 #[derive(Clone, Copy, Debug, PartialEq, Eq, Error)]
 pub enum PlanFault {
-    /// The first output that stands in no orderly list, told by the number of its instance and its own number there, as
-    /// [`OrderFault::Loop`] tells it.
+    /// The first output without an order, given by the number of its instance and its number in the instance, as
+    /// [`OrderFault::Loop`] has it.
     #[error("output {output} of instance {instance} has no order")]
     Loop { instance: u32, output: u32 },
     #[error("no memory")]

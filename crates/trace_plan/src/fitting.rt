@@ -21,7 +21,7 @@ use std::sync::Arc;
 use unit_exec::{Image, compile};
 use unit_tree::{Checked, Input, Instance, Param, Setting, Unit, start_word};
 
-/// What an instance needs to run: its image, how many ticks of the system one of its local ticks is, and the lowest and the
+/// What an instance needs to run: its image, the length of its local tick in ticks of the system, and the lowest and the
 /// highest words of its inputs' types.
 #[derive(Drop)]
 pub(crate) struct Fitted {
@@ -31,7 +31,7 @@ pub(crate) struct Fitted {
     pub(crate) high: Vec<i64>,
 }
 
-/// The lowest words of the types of inputs.
+/// Returns the lowest words of the inputs' types.
 fn lowest_words(alloc: Global, inputs: &[Input]) -> Result<Vec<i64>, NoMemory>
     ensures { IfOk result (λ words. words.items ≡ map (λ input. lowest input.ty) inputs.now) }
 {
@@ -42,7 +42,7 @@ fn lowest_words(alloc: Global, inputs: &[Input]) -> Result<Vec<i64>, NoMemory>
     Ok(words)
 }
 
-/// The highest words of the types of inputs.
+/// Returns the highest words of the inputs' types.
 fn highest_words(alloc: Global, inputs: &[Input]) -> Result<Vec<i64>, NoMemory>
     ensures { IfOk result (λ words. words.items ≡ map (λ input. highest input.ty) inputs.now) }
 {
@@ -53,7 +53,7 @@ fn highest_words(alloc: Global, inputs: &[Input]) -> Result<Vec<i64>, NoMemory>
     Ok(words)
 }
 
-/// The literal that a parameter has: the first that is set, else its start.
+/// Returns the literal of a parameter: the first that is set or, where none is, its start.
 fn literal_set(settings: &[Setting], param: &Param) -> Literal
     ensures { result ≡ literal_set settings.now param.now }
 {
@@ -65,7 +65,7 @@ fn literal_set(settings: &[Setting], param: &Param) -> Literal
     param.start
 }
 
-/// The words of parameters, with what an instance sets.
+/// Returns the words of parameters, with the settings of an instance.
 fn param_words(alloc: Global, settings: &[Setting], params: &[Param]) -> Result<Vec<i64>, NoMemory>
     requires { AllByRecursion (λ (param : Param). AreDecimals param.ty) params.now }
     ensures { IfOk result (λ words. words.items ≡ map (λ param. start_word param.ty (literal_set settings.now param)) params.now) }
@@ -77,7 +77,7 @@ fn param_words(alloc: Global, settings: &[Setting], params: &[Param]) -> Result<
     Ok(words)
 }
 
-/// The number of the first unit of a name.
+/// Returns the number of the first unit of a name, or `None` where there is none.
 fn number_of(units: &[Unit], name: &[u8]) -> Option<usize>
     ensures some { IfSome result (IsUnitNamed units.now name.now) }
     ensures none { IfNone result (unit_named units.now name.now ≡ None) }
@@ -90,7 +90,7 @@ fn number_of(units: &[Unit], name: &[u8]) -> Option<usize>
     None
 }
 
-/// A unit of a checked system, told by its number, that was compiled with words of its parameters.
+/// A unit of a checked system, given by its number, that was compiled with words of its parameters.
 #[derive(Drop)]
 pub(crate) struct Made {
     pub(crate) unit: u32,
@@ -98,14 +98,14 @@ pub(crate) struct Made {
     pub(crate) image: Arc<Image>,
 }
 
-/// Whether the words are the same.
+/// Returns whether the words are equal.
 fn same_words(one: &[i64], other: &[i64]) -> bool
     ensures { IsTrue result ↔ (one.now ≡ other.now) }
 {
     one == other
 }
 
-/// The image that was made of a unit with these words of its parameters, if there is one.
+/// Returns the image that was made of a unit with these words of its parameters, where there is one.
 fn made_of<'a>(made: &'a [Made], unit: u32, params: &[i64]) -> Option<&'a Arc<Image>>
     ensures { (checked : System) → AreImagesOf checked made.now → IfSome result (λ image. IsCompiled checked unit params.now image.now.value) }
 {
@@ -117,7 +117,7 @@ fn made_of<'a>(made: &'a [Made], unit: u32, params: &[i64]) -> Option<&'a Arc<Im
     None
 }
 
-/// The image of a unit with words of its parameters. It is made once, and shared by all instances that have the same.
+/// Returns the image of a unit with words of its parameters. It is made once, and all instances with the same unit and words share it.
 fn image_for(
     alloc: Global,
     checked: &Checked,
@@ -144,7 +144,7 @@ fn image_for(
     Ok(shared)
 }
 
-/// What an instance of a checked system needs, where its unit is declared. `made` has the images that were made before.
+/// Returns what an instance of a checked system needs, where its unit is declared. `made` has the images made so far.
 fn fit(
     alloc: Global,
     checked: &Checked,
@@ -169,7 +169,7 @@ fn fit(
     })
 }
 
-/// What each instance of a checked system needs, in their order.
+/// Returns what each instance of a checked system needs, in their order.
 pub(crate) fn all_fitted(alloc: Global, checked: &Checked) -> Result<Vec<Fitted>, NoMemory>
     ensures { IfOk result (λ all. AllZip IsFitted (run_of checked.now).members all.items) }
 {
@@ -189,7 +189,7 @@ pub(crate) fn all_fitted(alloc: Global, checked: &Checked) -> Result<Vec<Fitted>
     Ok(all)
 }
 
-/// The numbers of those whose code tells a greatest step, in their order.
+/// Returns the numbers of the instances whose code computes a limit, in their order.
 pub(crate) fn limited(alloc: Global, fitted: &[Fitted]) -> Result<Vec<u32>, NoMemory>
     requires { length fitted.now ≤ 64 }
     ensures { IfOk result (λ limited. limited.items ≡ places_from 0 (map tells_max fitted.now)) }
@@ -203,7 +203,7 @@ pub(crate) fn limited(alloc: Global, fitted: &[Fitted]) -> Result<Vec<u32>, NoMe
     Ok(limited)
 }
 
-/// How many ticks of the system one local tick of each is.
+/// Returns how many ticks of the system one local tick of each instance is.
 pub(crate) fn factors(alloc: Global, fitted: &[Fitted]) -> Result<Vec<u64>, NoMemory>
     ensures { IfOk result (λ factors. factors.items ≡ map (λ one. one.factor) fitted.now) }
 {

@@ -1,15 +1,16 @@
-//! Plans of runs: a judged system with all that its run needs, worked out once.
+//! Plans of runs: a judged system with all that its run needs, computed once.
 //!
-//! [`Plan::new`] gives the plan of a checked system: an order of its outputs, an image for each instance, the columns of its
-//! trace, and its numbers in ticks. Where some output has no order, [`PlanFault::Loop`] names the first one. [`Plan::ordered`]
-//! gives it by an order that was made already.
+//! [`Plan::new`] returns the plan of a checked system: an order of its outputs, an image for each instance, the columns of
+//! its trace, and its numbers in ticks. Where some output has no order, [`PlanFault::Loop`] names the first one.
+//! [`Plan::ordered`] makes the plan from an order that exists already.
 //!
-//! The layer above sees a plan as its system with what is run of it (`Planned` of `specs/Plans.antt`), and uses the calls of
-//! [`Plan`], each of which gives what that says. None but these two takes memory. The laws [`headers_can_be_printed`] and
-//! [`rows_can_be_printed`] say that a trace can be printed by its columns; [`Plan::columns`] has them as clauses.
+//! The layer above sees a plan as its system with the run of its plain form (`Planned` of `specs/Plans.antt`). It uses the
+//! calls of [`Plan`], each of which returns what `Planned` determines. Only [`Plan::new`] and [`Plan::ordered`] take memory. The laws
+//! [`headers_can_be_printed`] and [`rows_can_be_printed`] say that a trace can be printed by its columns; [`Plan::columns`] has
+//! them as clauses.
 //!
 //! Parts by file: `ordering` (the order, or the loop), `fitting` (what each instance needs), `numbers` (factors, lengths and
-//! budgets), `columns` (the columns). What a plan keeps stands in `specs/Keeps.antt`.
+//! budgets), `columns` (the columns). The invariants of a plan are in `specs/Keeps.antt`.
 #![tactic(auto)]
 
 mod columns;

@@ -11,7 +11,7 @@ use super_time::read_seconds;
 use model_rules::MOST_CELLS;
 use unit_tree::{Checked, System, Unit};
 
-/// The resolution of a system, and its other numbers: where the run ends and its longest step, in ticks, and its two budgets.
+/// The resolution of a system and the other numbers of its run: the stop and the longest step, in ticks, and the two budgets.
 #[derive(Clone, Copy, Drop)]
 pub(crate) struct Numbers {
     pub(crate) resolution: u8,
@@ -21,7 +21,7 @@ pub(crate) struct Numbers {
     pub(crate) row_limit: u64,
 }
 
-/// How many ticks of a system of a resolution one local tick of a unit is.
+/// Returns how many ticks of a system of a resolution one local tick of a unit is.
 pub(crate) fn factor(resolution: u8, unit: &Unit) -> u64
     requires { resolution ≤ 9 }
     ensures power { result ≡ 10 ^ (resolution - unwrap_or unit.now.resolution 0) }
@@ -32,7 +32,7 @@ pub(crate) fn factor(resolution: u8, unit: &Unit) -> u64
     u64::from(ten_to_the(resolution.saturating_sub(own)))
 }
 
-/// The resolution of a unit that may be there: 0 where it has none.
+/// Returns the resolution of a unit, or 0 where there is no unit.
 fn unit_resolution(unit: Option<&Unit>) -> u8
     ensures { result ≡ unit_resolution (option_map (λ unit. unit.now) unit.entry) }
 {
@@ -42,7 +42,7 @@ fn unit_resolution(unit: Option<&Unit>) -> u8
     }
 }
 
-/// The resolution of a system: the greatest of its instances' units.
+/// Returns the resolution of a system: the greatest of its instances' units.
 pub(crate) fn resolution(system: &System) -> u8
     ensures { result ≡ resolution_of system.now }
 {
@@ -53,7 +53,7 @@ pub(crate) fn resolution(system: &System) -> u8
     most
 }
 
-/// A length that was judged, in ticks, or the default where none is given.
+/// Returns a judged length in ticks, or the default where no length is given.
 fn ticks_or(default: u64, resolution: u8, seconds: Option<Literal>) -> u64
     requires decimals { resolution ≤ 9 }
     requires readable { IfSome seconds (IsReadable resolution) }
@@ -65,7 +65,7 @@ fn ticks_or(default: u64, resolution: u8, seconds: Option<Literal>) -> u64
     }
 }
 
-/// How many steps of length zero may follow each other.
+/// Returns the zero budget: how many steps of length zero may follow each other.
 fn zero_budget(system: &System) -> u64
     ensures { result ≡ unwrap_or system.now.zero (default_zeros system.now.version) }
 {
@@ -76,7 +76,7 @@ fn zero_budget(system: &System) -> u64
     }
 }
 
-/// How many rows a trace has at most where that is not given.
+/// Returns the greatest number of rows of a trace, where the text gives none.
 fn default_rows(version: u8, instances: u64) -> u64
     requires { 1 ≤ instances }
     ensures { result ≡ default_rows version instances }
@@ -85,7 +85,7 @@ fn default_rows(version: u8, instances: u64) -> u64
     most.min(u64::from(MOST_CELLS) / instances)
 }
 
-/// How many rows the trace has at most.
+/// Returns the greatest number of rows of the trace.
 fn row_limit(system: &System) -> u64
     requires { 1 ≤ length system.now.instances }
     ensures { result ≡ unwrap_or system.now.rows (default_rows system.now.version (length system.now.instances)) }
@@ -96,7 +96,7 @@ fn row_limit(system: &System) -> u64
     }
 }
 
-/// The numbers of the run of a checked system.
+/// Returns the numbers of the run of a checked system.
 pub(crate) fn numbers_of(checked: &Checked) -> Numbers
     ensures { AreNumbersOf checked.now (run_of checked.now) result }
 {

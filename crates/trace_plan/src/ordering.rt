@@ -9,7 +9,7 @@ use std::alloc::Global;
 use unit_tree::{Checked, Order};
 use wire_graph::{OrderFault, order};
 
-/// An order of the outputs of a checked system, or the first output that has none.
+/// Returns an order of the outputs of a checked system, or the first output that has none.
 pub(crate) fn order_of(alloc: Global, checked: &Checked) -> Result<Order, PlanFault>
     ensures ordered { IfOk result (IsOrderOf (run_of checked.now)) }
     ensures fault { IfErr result (IsRightPlanFault checked.now) }

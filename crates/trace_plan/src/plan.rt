@@ -26,7 +26,7 @@ pub struct Plan {
     checked: Checked,
     order: Order,
     fitted: Vec<Fitted>,
-    /// The factor of each instance. They stand by themselves too, since a run goes through them at each row.
+    /// The factor of each instance. They are also kept here, in one list, since a run reads all of them at each row.
     factors: Vec<u64>,
     /// The instances that set a limit to steps.
     limited: Vec<u32>,
@@ -52,12 +52,12 @@ impl Model for Plan {
 }
 
 impl Plan {
-    /// The plan of a system. Want of memory is a free answer.
+    /// Returns the plan of a system.
     ///
     /// # Errors
     ///
-    /// [`PlanFault::Loop`] where some output has no order, since it lies on a cycle of needs or needs one that does: it names
-    /// the first of them.
+    /// [`PlanFault::Loop`] where some output has no order, since it is on a cycle of needs or needs one that is: it names the
+    /// first such output. The call may fail for lack of memory at any time.
     pub fn new(alloc: Global, checked: Checked) -> Result<Plan, PlanFault>
         ensures plan { IfOk result (λ plan. plan.system ≡ checked) }
         ensures fault { IfErr result (IsRightPlanFault checked) }
@@ -66,7 +66,7 @@ impl Plan {
         Ok(Plan::ordered(alloc, checked, order)?)
     }
 
-    /// The plan of a system by an order of its outputs, for who made one already. Want of memory is a free answer.
+    /// Returns the plan of a system by an order of its outputs that the caller has. It may fail for lack of memory at any time.
     pub fn ordered(alloc: Global, checked: Checked, order: Order) -> Result<Plan, NoMemory>
         requires { IsOrderOf (run_of checked) order }
         ensures { IfOk result (λ plan. plan.system ≡ checked) }
@@ -87,7 +87,7 @@ impl Plan {
         })
     }
 
-    /// The system.
+    /// Returns the system.
     pub fn checked(&self) -> &Checked
         ensures system { result.now ≡ self.now.system }
         ensures run { self.now.run ≡ run_of self.now.system }
@@ -95,14 +95,14 @@ impl Plan {
         &self.checked
     }
 
-    /// An order of its outputs, with the routes of all ports.
+    /// Returns an order of its outputs, with the routes of all ports.
     pub fn order(&self) -> &Order
         ensures { IsOrderOf self.now.run result.now }
     {
         &self.order
     }
 
-    /// How many instances there are: from 1 to 64. Each has an image.
+    /// Returns how many instances there are: from 1 to 64. Each has an image.
     pub fn instances(&self) -> u32
         ensures count { result ≡ length self.now.run.members }
         ensures bounded { IsBounded self.now.run }
@@ -111,7 +111,7 @@ impl Plan {
         self.fitted.len() as u32
     }
 
-    /// The image of an instance.
+    /// Returns the image of an instance.
     pub fn image(&self, instance: u32) -> &Arc<Image>
         requires there { instance < length self.now.run.members }
         ensures { ForMember self.now.run instance (λ member. IsImageOf member.component result.now.value) }
@@ -119,7 +119,7 @@ impl Plan {
         &self.fitted[instance as usize].image
     }
 
-    /// How many ticks of the system one local tick of an instance is.
+    /// Returns how many ticks of the system one local tick of an instance is.
     pub fn factor(&self, instance: u32) -> u64
         requires there { instance < length self.now.run.members }
         ensures factor { ForMember self.now.run instance (λ member. result ≡ member.factor) }
@@ -129,14 +129,14 @@ impl Plan {
         self.factors[instance as usize]
     }
 
-    /// The instances whose units set a limit to their steps by `max`, in their order.
+    /// Returns the instances whose units set a limit to their steps by `max`, in their order.
     pub fn limited(&self) -> &[u32]
         ensures { result.now ≡ limited_in self.now.run }
     {
         &self.limited
     }
 
-    /// The lowest and the highest words of the types of an instance's inputs, in their order.
+    /// Returns the lowest and the highest words of the types of an instance's inputs, in their order.
     pub fn input_ends(&self, instance: u32) -> (&[i64], &[i64])
         requires there { instance < length self.now.run.members }
         ensures low { ForMember self.now.run instance (λ member. result.0.now ≡ lowest_words member) }
@@ -146,19 +146,19 @@ impl Plan {
         (&fitted.low, &fitted.high)
     }
 
-    /// The columns of the trace. Each is an output of the system, and has a word of its type where ports are right and all
-    /// have words, so that its header and its rows can be printed.
+    /// Returns the columns of the trace. Each is an output of the system. Where ports are right and all have words, it has a word
+    /// of its type. So the header and the rows can be printed.
     pub fn columns(&self) -> &[Column]
         ensures columns { result.now ≡ columns_of self.now.system }
         ensures titles { HasTitles self.now.system }
         ensures rows { HasRows self.now.system }
     {
-        // That the system is judged is known by the clauses of this call alone.
+        // Called for its clauses, which state that the system is judged.
         let _ = self.checked.system();
         &self.columns
     }
 
-    /// The resolution of the system: a tick is ten to the power of minus this many seconds.
+    /// Returns the resolution of the system: a tick is ten to the power of minus this many seconds.
     pub fn resolution(&self) -> u8
         ensures value { result ≡ resolution_of self.now.system }
         ensures most { result ≤ 9 }
@@ -166,7 +166,7 @@ impl Plan {
         self.numbers.resolution
     }
 
-    /// Where the run ends, in ticks.
+    /// Returns the stop: where the run ends, in ticks.
     pub fn stop(&self) -> u64
         ensures value { result ≡ self.now.run.stop }
         ensures bounded { IsBounded self.now.run }
@@ -174,7 +174,7 @@ impl Plan {
         self.numbers.stop
     }
 
-    /// The longest step, in ticks.
+    /// Returns the longest step, in ticks.
     pub fn longest(&self) -> u64
         ensures value { result ≡ self.now.run.longest }
         ensures bounded { IsBounded self.now.run }
@@ -182,7 +182,7 @@ impl Plan {
         self.numbers.longest
     }
 
-    /// How many steps of length zero may follow each other.
+    /// Returns how many steps of length zero may follow each other.
     pub fn zero_budget(&self) -> u64
         ensures value { result ≡ self.now.run.zero_budget }
         ensures bounded { IsBounded self.now.run }
@@ -190,7 +190,7 @@ impl Plan {
         self.numbers.zero_budget
     }
 
-    /// How many rows the trace has at most.
+    /// Returns the greatest number of rows of the trace.
     pub fn row_limit(&self) -> u64
         ensures value { result ≡ self.now.run.row_budget }
         ensures bounded { IsBounded self.now.run }

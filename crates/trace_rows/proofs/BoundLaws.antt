@@ -25,7 +25,7 @@ use Rattle.trace_rows.specs.Bounds.{CellsAreBounded, TimesAreBounded, rows_at}
 
 -- ---- Cells
 
--- a step is made by each member at most
+-- Each member makes at most one step.
 few_steps : (run : Composition) (at : Position) (ports : Ports) (h : ℕ) → steps_there (steps_by run at ports h) ≤ length run.members
 few_steps run at ports h =
     let all = count_by-le-length is_some (steps_by run at ports h) in
@@ -41,7 +41,7 @@ cells_by true redone tried anew m one two = omega arith
 cells_by false true tried anew m one two = omega arith
 cells_by false false tried anew m one two = omega arith
 
--- a stand without a row has no cells
+-- A stand without a row has no cells.
 one_more : (fault : Option Ending) (others : List (Option Ending)) (redone : Bool) (tried anew m rest : ℕ) (point : Point) (ports : Ports) (rows : List Row)
     → tried ≤ m → anew ≤ m → rest ≤ 2 * m * length rows
     → cond (is_some (first_some (fault ∷ others))) 0 (tried + cond redone anew 0) + rest ≤ 2 * m * length (cons_option (row_unless fault point ports) rows)
@@ -63,7 +63,7 @@ cells_are_bounded run (stand ∷ stands) =
 
 -- ---- Times
 
--- a row is counted where it has the time
+-- A row is counted where it has the time.
 counted : (fault : Option Ending) (t : ℕ) (point : Point) (ports : Ports) (rows : List Row)
     → rows_at t (cons_option (row_unless fault point ports) rows) ≤ cond (point.t == t) 1 0 + rows_at t rows
 counted (Some ending) t point ports rows = omega arith
@@ -71,7 +71,7 @@ counted None t point ports rows =
     let first = sum_by-cons (λ (row : Row). cond (row.point.t == t) 1 0) (record { point = point; words = filter_map (λ word. word) ports }) rows in
     omega (arith, first)
 
--- the point after a step is one more at the same time, or later
+-- The point after a step is one more at the same time, or later.
 abbrev IsNext : Point → Point → Type 0
 IsNext point next = ((next.t ≡ point.t) × (next.n ≡ suc point.n)) ⊎ (point.t < next.t)
 
@@ -85,7 +85,7 @@ goes_next run here next goes =
     let h = agreed run here.at here.ports in
     subst (λ (at : Position). IsNext here.at.point at.point) (goes_to run here next goes) (next_by (h == 0) here.at.point h refl)
 
--- rows of stands from a point on: of a time before it none, of its own at most those that may still come, of any at most all
+-- Rows of stands from a point on: at an earlier time none, at its own time at most those that may still follow, at any time at most all.
 record AreFew (most_zeros t : ℕ) (point : Point) (count : ℕ) : Type 0 where
   earlier : t < point.t → count ≡ 0
   same : point.t ≡ t → count + point.n ≤ most_zeros + 1

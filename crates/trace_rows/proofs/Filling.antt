@@ -1,4 +1,4 @@
--- All steps of a phase, made by whomever, one instance after the other.
+-- All steps of a phase are made, by anyone, one instance after the other.
 use Rattle.std.proofs.Common.{◌≡◌, ℕ, suc, ◌+◌, ◌<◌, ◌≤◌, cond, Bool, true, false, List, [], ◌∷◌, ◌++◌, length, length-append, Some}
 use Rattle.std.proofs.Common.{Result, refl, sym, ap, subst, ◌∙◌, arith, append-nil, append_assoc}
 use Rattle.std.specs.Prelude.{slice_get, slice_set}
@@ -44,7 +44,7 @@ cells_within run stand (Ended ending) cells is = omega (arith, ap length is.none
 pub few_cells : (r : RunState) → Stands r → length r.cells ≤ length r.plan.run.members
 few_cells r stands = cells_within r.plan.run r.stand r.phase r.cells stands.phase_is
 
--- One whose step isn't wanted is full.
+-- A cell whose step isn't required is full.
 pub full_cell : (cell : Cell) → (Some cell ≡ Some Empty → ⊥) → is_empty_cell cell ≡ false
 full_cell Held not = refl
 full_cell Empty not = absurd (not refl)
@@ -76,7 +76,7 @@ by_answer old new instance step is = record {
 
 -- ---- Cells in turn
 
--- A cell before and after: a step that was wanted is there, and any other cell stays.
+-- A cell before and after: a required step was made, and any other cell stays.
 abbrev pub IsAfter : Cell → Cell → Type 0
 IsAfter Empty new = is_filled new ≡ true
 IsAfter old new = new ≡ old
@@ -84,7 +84,7 @@ IsAfter old new = new ≡ old
 abbrev pub with_cells : RunState → List Cell → ℕ → ℕ → RunState
 with_cells r cells found own = record r { cells = cells; found = found; own = own }
 
--- the steps of the first cells are there
+-- The steps of the first cells are made.
 pub record Filling (r now : RunState) (count : ℕ) : Type 0 where
   pub done : List Cell
   pub made : List Cell
@@ -109,7 +109,7 @@ module _ (r now : RunState) (count : ℕ) (within : count < length r.cells) wher
       → slice_get now.cells count ≡ Some cell
   seen_next made cell others long is = ap (λ cells. slice_get cells count) is ∙ ap (slice_get (made ++ (cell ∷ others))) (sym long) ∙ at_seam made cell others
 
-  -- the next cell joins those that are there
+  -- The next cell is filled too.
   next_filling : (next : RunState) (done made : List Cell) (cell new : Cell) (others : List Cell) → r.cells ≡ done ++ (cell ∷ others)
       → length made ≡ count → AllZip IsAfter done made → IsAfter cell new → next ≡ with_cells r (made ++ (new ∷ others)) next.found next.own
       → next.found + next.own ≡ r.found + r.own + count_by is_empty_cell (done ++ (cell ∷ [])) → Filling r next (count + 1)
@@ -144,7 +144,7 @@ module _ (r now : RunState) (count : ℕ) (within : count < length r.cells) wher
       ∙ ap (λ all. with_cells r all next.found next.own) set_there)
       (omega (arith, one, more, counted))
 
-  -- a cell that is not wanted stays
+  -- A cell that is not required stays.
   stays : (cell : Cell) → (cell ≡ Empty → ⊥) → IsAfter cell cell × (is_empty_cell cell ≡ false)
   stays Held not = (refl, refl)
   stays Empty not = absurd (not refl)
@@ -167,7 +167,7 @@ fills r now next count f within wanted filled = wanted_next r now count within n
 pub leaves : (r now : RunState) (count : ℕ) → Filling r now count → count < length r.cells → (IsWanted now count → ⊥) → Filling r now (count + 1)
 leaves r now count f within unwanted = other_next r now count within f.done f.made f.others f.split f.long f.each f.is f.counted unwanted
 
--- ---- All steps are there
+-- ---- All steps are made
 
 filled_full : (cell : Cell) → is_filled cell ≡ true → is_empty_cell cell ≡ false
 filled_full Held is = absurd (cc)

@@ -1,4 +1,4 @@
--- The phase of a run at which no cell was filled where it stands.
+-- The phase of a run at whose stand no cell was filled.
 use Rattle.std.proofs.Common.{◌≡◌, ◌+◌, false, [], map, cond, Option, Some, None, refl, sym, ap, subst, ◌∙◌}
 use Rattle.std.specs.Prelude.{◌&&◌, is_some, is_none}
 use Rattle.trace_core.specs.Runs.{RunState, IsPhase, cells_of, cell_of, first_end, phase_or, is_ended}
@@ -10,13 +10,13 @@ use Rattle.unit_tree.specs.Trace.{Stand, cells_of_trial, cells_of_redo, cells_at
 use Rattle.unit_tree.specs.declared.ending.Ending.{Ending}
 use Rattle.trace_rows.specs.Passing.{IsFresh}
 
--- a trial of the proposal
+-- A trial of the proposed step.
 pub record IsTried (r : RunState) : Type 0 where
   pub going : first_end r.plan.run r.stand ≡ None
   pub phase : r.phase ≡ Trial (proposed r.plan.run r.stand.at r.stand.ports)
   pub cells : r.cells ≡ map (cell_of r.stand.at.point.t (proposed r.plan.run r.stand.at r.stand.ports)) r.plan.run.members
 
--- or the end
+-- Or the end.
 pub record IsOver (r : RunState) (ending : Ending) : Type 0 where
   pub over : first_end r.plan.run r.stand ≡ Some ending
   pub phase : r.phase ≡ Ended ending
@@ -65,14 +65,14 @@ over_from r None ending by is = absurd (differ (sym by.phase ∙ is))
     differ e = cc
 over_from r (Some end) ending by is = subst (IsOver r) (same_end (sym by.phase ∙ is)) by
 
--- where it ended, the successor does
+-- Where it ended, the successor is the end.
 pub ended_as : (run : Composition) (stand : Stand) (phase : Phase) (ending : Ending) → IsPhase run stand phase [] → phase ≡ Ended ending
     → successor run stand.at stand.ports ≡ ends ending
 ended_as run stand (Ended end) ending is same = is.is ∙ ap ends (same_end same)
 ended_as run stand (Trial h) ending is same = absurd (cc)
 ended_as run stand (Redo h) ending is same = absurd (cc)
 
--- and there are no cells
+-- And there are no cells.
 pub cells_ended : (run : Composition) (stand : Stand) (ending : Ending) → first_end run stand ≡ Some ending → cells_at run stand ≡ 0
 cells_ended run stand ending over =
     ap (λ (end : Option Ending). cond (is_some end) 0

@@ -17,17 +17,17 @@ use Rattle.run_laws.proofs.AssignmentLaws.{one_assignment}
 
 -- ---- Where a rest is passed
 
--- the stands of a rest are those that were passed, the one here, and those that follow it
+-- The stands of a rest are the passed ones, the one here, and those that follow it.
 pub record Onward (run : Composition) (passed : List Stand) (here : Stand) (stands : List Stand) (ending : Ending) : Type 0 where
   pub later : List Stand
   pub split : stands ≡ passed ++ (here ∷ later)
   pub follows : Follows run here later ending
 
--- every rest of the position goes on from here
+-- Every rest of the position continues from here.
 abbrev pub Walked : Composition → Position → List Stand → Stand → Type 0
 Walked run from passed here = (stands : List Stand) (ending : Ending) → GoesOnFrom run from stands ending → Onward run passed here stands ending
 
--- two stands at one position are the same
+-- Two stands at one position are equal.
 one_stand : (run : Composition) (order : List ℕ) (one other : Stand) → IsPlaceOrder run order → HasWords run one.at → IsStand run one → IsStand run other
     → other.at ≡ one.at → other ≡ one
 one_stand run order one other ordered words is_one is_other same =
@@ -68,7 +68,7 @@ walked_on run order from passed here next ordered words to_next walked stands en
     let on = walked stands ending rest in
     on_from run order passed here next stands ending on.later ordered words to_next on.split on.follows
 
--- where the run ends, the rest does
+-- Where the run ends, the rest ends.
 end_from : (run : Composition) (passed : List Stand) (here : Stand) (stands : List Stand) (end ending : Ending) (later : List Stand)
     → successor run here.at here.ports ≡ ends ending → stands ≡ passed ++ (here ∷ later) → Follows run here later end
     → (stands ≡ passed ++ (here ∷ [])) × (end ≡ ending)
@@ -95,7 +95,7 @@ last_is (stand ∷ (later ∷ others)) here = last_is (later ∷ others) here
 
 -- ---- Text along stands
 
--- the text of the rows of stands
+-- The text of the rows of stands.
 abbrev pub text_along : Composition → (Row → List ℕ) → List Stand → List ℕ
 text_along run line stands = flat_map line (rows_of run stands)
 
@@ -104,7 +104,7 @@ pub text_along-append : (run : Composition) (line : Row → List ℕ) (passed la
 text_along-append run line passed later = ap (flat_map line) (filter_map-append (row_at run) passed later)
     ∙ flat_map-append line (rows_of run passed) (rows_of run later)
 
--- what was put up to here, and a front of the row here, begins the text of every rest
+-- What was written up to here, and a prefix of the row here, is a prefix of the text of every rest.
 pub front_along : (run : Composition) (line : Row → List ℕ) (from : Position) (passed : List Stand) (here : Stand) (held0 held held' : Option (List ℕ))
     → Walked run from passed here → Appends held0 held (text_along run line passed) → AppendsPrefix held held' (text_along run line (here ∷ []))
     → (stands : List Stand) (ending : Ending) → GoesOnFrom run from stands ending → AppendsPrefix held0 held' (text_along run line stands)

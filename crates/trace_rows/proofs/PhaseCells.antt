@@ -1,4 +1,4 @@
--- How many cells a stand has: those of the trial, and of the step that is made anew.
+-- How many cells a stand has: those of the trial, and those of the redo.
 use Rattle.std.proofs.Common.{◌≡◌, ◌∙◌, ℕ, ◌+◌, cond, Bool, true, false, List, [], ◌∷◌, ℤ, length, map, Option, Some, None, refl, sym, ap, arith}
 use Rattle.std.specs.Prelude.{◌&&◌, is_some, is_none, zip}
 use Rattle.std.specs.List.{count_by}
@@ -15,7 +15,7 @@ use Rattle.unit_tree.specs.declared.ending.Ending.{Ending}
 
 -- ---- How many there are
 
--- a cell is wanted exactly where the member makes a step
+-- A cell is required exactly where the member makes a step.
 abbrev one : Bool → ℕ
 one counts = cond counts 1 0
 
@@ -42,7 +42,7 @@ wanted_are_steps run stand h as_many = wanted_along stand.at.point.t h stand.por
 
 -- ---- The cells of a stand
 
--- where it goes on, those of the trial
+-- Where the run goes on, the cells of the trial.
 cells_of_both : (run : Composition) (stand : Stand) → first_end run stand ≡ None
     → cells_at run stand
     ≡ cells_of_trial run stand + cond (is_none (trial_end run stand.at stand.ports) && is_redone run stand.at stand.ports) (cells_of_redo run stand) 0
@@ -50,7 +50,7 @@ cells_of_both run stand none =
     ap (λ (end : Option Ending). cond (is_some end) 0
     (cells_of_trial run stand + cond (is_none (trial_end run stand.at stand.ports) && is_redone run stand.at stand.ports) (cells_of_redo run stand) 0)) none
 
--- with those of the step that is made anew
+-- With the cells of the redo.
 pub cells_redone : (run : Composition) (stand : Stand) → first_end run stand ≡ None → trial_end run stand.at stand.ports ≡ None
     → is_redone run stand.at stand.ports ≡ true → cells_at run stand ≡ cells_of_trial run stand + cells_of_redo run stand
 cells_redone run stand none no_fault shorter =

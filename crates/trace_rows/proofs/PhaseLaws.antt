@@ -1,4 +1,4 @@
--- Where a run goes from a phase whose steps are there, made by whomever: to the next stand, to the end, or to the step made anew.
+-- Where a run goes from a phase whose steps were made, by anyone: to the next stand, to the end, or to the redo.
 use Rattle.std.proofs.Common.{◌≡◌, ◌∙◌, ℕ, ◌+◌, true, false, List, length, None, inl, inr, refl, sym, ap, subst, arith}
 use Rattle.std.specs.List.{count_by}
 use Rattle.std.proofs.lemmas.Slice.Zip.{AllZip-long}
@@ -31,7 +31,7 @@ ends_already r ending fresh stands phase =
       filled = omega (arith, none);
     })
 
--- ---- From a phase whose steps are there
+-- ---- From a phase whose steps are made
 
 -- The run with other cells and counts.
 abbrev filled_with : RunState → Phase → List Cell → ℕ → ℕ → RunState
@@ -67,7 +67,7 @@ ends_by r next phase cells found own all end = record {
   filled = ap (λ (s : RunState). s.found + s.own) end.is ∙ all;
 }
 
--- The run with the step to be made anew where it stands.
+-- The run at its redo, at the same stand.
 abbrev anew : RunState → ℕ → ℕ → RunState
 anew r found own = record r {
   phase = Redo (agreed r.plan.run r.stand.at r.stand.ports);
@@ -76,7 +76,7 @@ anew r found own = record r {
   own = own;
 }
 
--- The step is to be made anew, when all cells of the trial were filled.
+-- A redo is due, when all cells of the trial were filled.
 pub record IsRedone (r next : RunState) : Type 0 where
   pub going : first_end r.plan.run r.stand ≡ None
   pub no_fault : trial_end r.plan.run r.stand.at r.stand.ports ≡ None
@@ -84,7 +84,7 @@ pub record IsRedone (r next : RunState) : Type 0 where
   pub is : next ≡ anew r next.found next.own
   pub counted : next.found + next.own ≡ r.found + r.own + cells_of_trial r.plan.run r.stand
 
--- What settling tells of the next row: after the trial, and after the step made anew.
+-- The next row after settling: after the trial, and after the redo.
 abbrev pub ToRow : RunState → RunState → Settle → Type 0
 ToRow r next settle.Row = WentOn r next true
 ToRow r next settle.Ended = WentOn r next false
@@ -136,7 +136,7 @@ module _ (r : RunState) (stands : Stands r) where
       from_trial next now.cells now.found now.own told (fresh_tried r fresh going) there.counted
       (subst (λ one. Settled one next told) there.is settled)
 
-  -- ---- The step made anew
+  -- ---- The redo
 
   redo_cells : (second : RunState) → IsRedone r second → (found own : ℕ) → found + own ≡ second.found + second.own + count_by is_empty_cell second.cells
       → found + own ≡ r.found + r.own + cells_at r.plan.run r.stand
@@ -171,7 +171,7 @@ module _ (r : RunState) (stands : Stands r) where
       from_redo next now.cells now.found now.own told (redo_cells second redone now.found now.own there.counted)
       (subst (λ one. Settled one next told) is settled)
 
--- Where no row is told, it has ended.
+-- Where there is no next row, it has ended.
 pub no_row : (r next : RunState) (told : Settle) → ToEnd r next told → (told ≡ settle.Row → ⊥) → WentOn r next false
 no_row r next settle.Row to not = absurd (not refl)
 no_row r next settle.Ended to not = to

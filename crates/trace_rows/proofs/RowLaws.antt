@@ -1,4 +1,4 @@
--- What the rows of a run put and count.
+-- What the rows of a run write and count.
 use Rattle.std.proofs.Common.{◌≡◌, ℕ, ◌+◌, ◌*◌, ◌<◌, ◌^◌, ℤ, pos, neg_ℤ, ◌+ℤ◌, ◌≤ℤ◌, List, [], ◌∷◌, ◌++◌, length, drop, get_or, Option, Some, None, Result, Ok}
 use Rattle.std.proofs.Common.{Err, refl, sym, ap, subst, ◌∙◌, append-nil, arith}
 use Rattle.std.specs.Io.KnownBytes.{Appends}
@@ -40,7 +40,7 @@ pub row_sum_more : (columns : List Column) (words : List ℤ) (i : ℕ) (d : Col
     → row_sum (drop i columns) words ≡ word_shown words (get_or columns i d) +ℤ row_sum (drop (i + 1) columns) words
 row_sum_more columns words i d within = at_drop_more (λ rest. row_sum rest words) columns i d within
 
--- one word more
+-- One more word.
 pub summed_more : (columns : List Column) (words : List ℤ) (i : ℕ) (d : Column) (sum word all : ℤ) → i < length columns
     → word ≡ word_shown words (get_or columns i d) → sum +ℤ row_sum (drop i columns) words ≡ all → (sum +ℤ word) +ℤ row_sum (drop (i + 1) columns) words ≡ all
 summed_more columns words i d sum word all within is summed =
@@ -58,12 +58,12 @@ add-nothing sum = omega (arith, ints)
 
 -- ---- Lines
 
--- the text of a trace is its header and its lines
+-- The text of a trace is its header and its lines.
 pub text_is : (system : System) (rows : List Row) → header_of system ++ lines_of system rows ≡ trace_text system rows
 unfolding header_of lines_of
 text_is system rows = refl
 
--- the line of one row, from the system's own resolution and columns
+-- The line of one row, from the system's own resolution and columns.
 one_line : (system : System) (resolution : ℕ) (columns : List Column) (row : Row) → resolution ≡ resolution_of system → columns ≡ columns_of system
     → row_line resolution columns row.point row.words ≡ lines_of system (row ∷ [])
 unfolding lines_of
@@ -83,7 +83,7 @@ row_here plan stand row is = ap (λ found. cons_option found []) is
 none_here : (plan : Planned) (stand : Stand) → row_at plan.run stand ≡ None → rows_here plan stand ≡ []
 none_here plan stand is = ap (λ found. cons_option found []) is
 
--- what `option_map` tells of the row of a run
+-- `option_map` on the row of a run.
 pub told_none : {A B : Type 0} (f : A → B) (told : Option A) (row : Option B) → option_map f told ≡ row → ((a : A) → told ≡ Some a → ⊥) → row ≡ None
 told_none f None row is not = sym is
 told_none f (Some a) row is not = absurd (not a refl)
@@ -138,7 +138,7 @@ row_broken plan stand row resolution columns held held' faults faults' tally fau
       cause = tells;
     })
 
--- a row for which there is no memory
+-- A row for which there is no memory.
 pub row_refused : (plan : Planned) (stand : Stand) (held : Option (List ℕ)) (faults : ℕ) (tally : Tally)
     → PutsRow plan stand held held faults faults tally tally (Err NoMemory)
 row_refused plan stand held faults tally = record {
@@ -147,7 +147,7 @@ row_refused plan stand held faults tally = record {
   cause = record { later = omega arith; failed = λ e. absurd (cc); same = λ _. refl };
 }
 
--- what a `?` gives up with
+-- The fault that a `?` returns.
 pub err_is : {T : Type 0} (result : Result T CrewFault) (fault : CrewFault) → IsErrAnd result (λ e. e ≡ fault) → result ≡ Err fault
 err_is (Ok done) fault is = absurd is
 err_is (Err other) fault is = ap (λ e. Err e) is
@@ -176,7 +176,7 @@ words_by plan stand row order None run ordered rows words is_stand fault is =
     (rows stand.at.states stand.ports (as_many ∙ ap (λ (run : Composition). length run.members) run)
     (subst (λ run. IsAssignment run stand.at.states stand.ports) run is_stand) there)
 
--- the columns have their words in the row where a run stands
+-- The columns have their words in the row at the run's stand.
 pub row_shows : (plan : Planned) (r : RunState) (row : lent.Row) (columns : List Column) → r.plan ≡ plan → Stands r → HasRows plan.system
     → row_at plan.run r.stand ≡ Some (row_told row) → columns ≡ columns_of plan.system → AllByRecursion (HasWord row.ports.now) columns
 row_shows plan r row columns own stands rows is columns_are =
@@ -187,7 +187,7 @@ row_shows plan r row columns own stands rows is columns_are =
 
 -- ---- Faults
 
--- what a `?` gives up with is the fault of the call
+-- The fault that a `?` returns is that of the call.
 abbrev err : (T : Type 0) → CrewFault → Result T CrewFault
 err T fault = Err fault
 

@@ -1,4 +1,4 @@
--- What a run has put and reports when it is over, or given up.
+-- What a run has written and reports when it is over, or given up.
 use Rattle.std.proofs.Common.{◌≡◌, ℕ, ◌+◌, ◌*◌, ◌≤◌, List, [], ◌∷◌, ◌++◌, length, Option, Some, None, Result, Ok, Err, refl, sym, ap, subst, ◌∙◌, append-nil}
 use Rattle.std.proofs.Common.{append_assoc, arith}
 use Rattle.std.specs.List.{cons_option}
@@ -36,7 +36,7 @@ use Rattle.trace_rows.proofs.PassedStands.{Walked, walked_end, last_is, front_al
 
 -- ---- The run is over
 
--- it ended here, and all rows and cells are there
+-- The run ended here, and all rows and cells were made.
 pub record IsDone (plan : Planned) (from : Position) (r : RunState) (held0 held : Option (List ℕ)) (tally : Tally) : Type 0 where
   pub passed : List Stand
   pub walked : Walked plan.run from passed r.stand
@@ -46,7 +46,7 @@ pub record IsDone (plan : Planned) (from : Position) (r : RunState) (held0 held 
   pub phase : r.phase ≡ Ended ending
   pub ended : successor plan.run r.stand.at r.stand.ports ≡ ends ending
 
--- behind the row here
+-- After the row here.
 pub done_there : (plan : Planned) (from : Position) (old new : RunState) (held0 held : Option (List ℕ)) (faults0 faults : ℕ) (tally : Tally)
     → Kept plan from old held0 held faults0 faults tally → Stops old new → IsDone plan from new held0 held tally
 done_there plan from old new held0 held faults0 faults tally kept there =
@@ -64,7 +64,7 @@ done_there plan from old new held0 held faults0 faults tally kept there =
           (subst (λ (p : Planned). successor p.run old.stand.at old.stand.ports ≡ ends there.ending) kept.at.planned there.ended);
     }
 
--- a stand with a port fault has no row
+-- A stand with a port fault has no row.
 put_on : (plan : Planned) (passed : List Stand) (here : Stand) (held0 held : Option (List ℕ)) (tally : Tally) → row_at plan.run here ≡ None
     → ArePut plan passed held0 held tally → ArePut plan (passed ++ (here ∷ [])) held0 held tally
 put_on plan passed here held0 held tally none put =
@@ -103,7 +103,7 @@ done_at plan from passed r held0 held tally (Some ending) at put is unknown =
     nothing_more : (before here : ℕ) → here ≡ 0 → before ≡ before + here
     nothing_more before here is = omega arith
 
--- at a stand without a row behind it
+-- At a stand that has no row after it.
 pub done_next : (plan : Planned) (from : Position) (old new : RunState) (held0 held : Option (List ℕ)) (faults0 faults : ℕ) (tally : Tally) → Given plan from
     → Kept plan from old held0 held faults0 faults tally → Passes old new → Stands new → (ArePortsKnown new.plan.run new.stand → ⊥)
     → IsDone plan from new held0 held tally
@@ -113,7 +113,7 @@ done_next plan from old new held0 held faults0 faults tally given kept on stands
 
 -- ---- What it reports
 
--- the report is that of a run which ended so where it stands
+-- The report is that of a run which ended in this way at its stand.
 pub record IsReportOf (r : RunState) (ending : Ending) (tally : Tally) (report : Report) : Type 0 where
   pub outcome : report.outcome ≡ ending
   pub last : report.last ≡ r.stand.at.point
@@ -149,7 +149,7 @@ reports_rest plan from r held0 held tally ending report given done is told =
 
 -- ---- The run is given up
 
--- the line of a row in the trace of a system
+-- The line of a row in the trace of a system.
 abbrev line : System → Row → List ℕ
 line system row = row_line (resolution_of system) (columns_of system) row.point row.words
 
@@ -169,7 +169,7 @@ front_come plan from r held0 held held' faults0 faults tally come front = record
       front_of plan.system plan.run from come.passed r.stand held0 held held' come.at.walked come.put.out front stands ending rest;
 }
 
--- behind the row here
+-- After the row here.
 pub front_kept : (plan : Planned) (from : Position) (r : RunState) (held0 held : Option (List ℕ)) (faults0 faults : ℕ) (tally : Tally)
     → Kept plan from r held0 held faults0 faults tally → PutsRestFront plan from held0 held
 front_kept plan from r held0 held faults0 faults tally kept = record {
@@ -187,7 +187,7 @@ front_kept plan from r held0 held faults0 faults tally kept = record {
       (AppendsPrefix-whole held0 held (lines_of plan.system (rows_of plan.run here)) kept.put.out));
 }
 
--- ---- A whole trace, which is the rest of the first position behind the header
+-- ---- A whole trace: the header, and then the rest of the first position
 
 pub traced : (plan : Planned) (from : Position) (held0 held held' : Option (List ℕ)) (report : Report) → plan.run ≡ run_of plan.system
     → from ≡ first_position plan.run → Appends held0 held (header_of plan.system) → ReportsRest plan from held held' report

@@ -1,4 +1,4 @@
--- What a loop over the rows of a run keeps, from where the run was opened on.
+-- The invariant of a loop over the rows of a run, from where the run was opened on.
 use Rattle.std.proofs.Common.{◌≡◌, ℕ, suc, ◌+◌, ◌<◌, ◌≤◌, pos, ◌+ℤ◌, List, [], ◌∷◌, ◌++◌, length, length-append, Option, Some, None, Ok, refl, sym, ap, subst}
 use Rattle.std.proofs.Common.{◌∙◌}
 use Rattle.std.proofs.Common.{arith}
@@ -28,7 +28,7 @@ use Rattle.trace_rows.specs.declared.tally.Tally.{Tally}
 use Rattle.trace_rows.proofs.RowLaws.{no_lines}
 use Rattle.trace_rows.proofs.PassedStands.{Walked, walked_first, walked_on}
 
--- what is so of a plan, and of the position at which a run of it was opened, whatever the run does
+-- What holds of a plan, and of the position at which a run of it was opened, whatever the run does.
 pub record Given (plan : Planned) (from : Position) : Type 0 where
   pub run : plan.run ≡ run_of plan.system
   pub order : List ℕ
@@ -38,13 +38,13 @@ pub record Given (plan : Planned) (from : Position) : Type 0 where
   pub words : HasWords plan.run from
   pub in_bounds : IsInBounds plan.run from
 
--- the rows of these stands were put and counted
+-- The rows of these stands were written and counted.
 pub record ArePut (plan : Planned) (stands : List Stand) (held0 held : Option (List ℕ)) (tally : Tally) : Type 0 where
   pub out : Appends held0 held (lines_of plan.system (rows_of plan.run stands))
   pub rows : tally.rows ≡ length (rows_of plan.run stands)
   pub sum : tally.sum ≡ sum_shown (columns_of plan.system) (rows_of plan.run stands)
 
--- the run stands behind these stands of the rest of the position at which it was opened, and no cell was filled there
+-- The run comes after these stands of the rest of the position at which it was opened, and no cell was filled there.
 pub record IsAt (plan : Planned) (from : Position) (passed : List Stand) (r : RunState) : Type 0 where
   pub planned : r.plan ≡ plan
   pub stands : Stands r
@@ -52,7 +52,7 @@ pub record IsAt (plan : Planned) (from : Position) (passed : List Stand) (r : Ru
   pub walked : Walked plan.run from passed r.stand
   pub filled : r.found + r.own ≡ cells_of plan.run passed
 
--- before the row here is put
+-- Before the row here is written.
 pub record Come (plan : Planned) (from : Position) (r : RunState) (held0 held : Option (List ℕ)) (faults0 faults : ℕ) (tally : Tally) : Type 0 where
   pub passed : List Stand
   pub at : IsAt plan from passed r
@@ -60,7 +60,7 @@ pub record Come (plan : Planned) (from : Position) (r : RunState) (held0 held : 
   pub few : tally.rows ≤ r.stand.at.number
   pub same : faults ≡ faults0
 
--- and behind it
+-- After it was written.
 pub record Kept (plan : Planned) (from : Position) (r : RunState) (held0 held : Option (List ℕ)) (faults0 faults : ℕ) (tally : Tally) : Type 0 where
   pub passed : List Stand
   pub at : IsAt plan from passed r
@@ -68,7 +68,7 @@ pub record Kept (plan : Planned) (from : Position) (r : RunState) (held0 held : 
   pub few : tally.rows ≤ suc r.stand.at.number
   pub same : faults ≡ faults0
 
--- ---- A row is put
+-- ---- A row is written
 
 pub lines-append : (system : System) (one other : List Row) → lines_of system (one ++ other) ≡ lines_of system one ++ lines_of system other
 unfolding lines_of
@@ -127,14 +127,14 @@ next_number run here next to_next = ap (λ (at : Position). at.number) (goes_to 
 pub cells-push : (run : Composition) (passed : List Stand) (here : Stand) → cells_of run (passed ++ (here ∷ [])) ≡ cells_of run passed + cells_at run here
 cells-push run passed here = sum_by_push (cells_at run) passed here
 
--- the cells of one stand more were filled
+-- The cells of one more stand were filled.
 pub filled_more : (plan lent : Planned) (passed : List Stand) (here : Stand) (before now : ℕ) → lent ≡ plan → before ≡ cells_of plan.run passed
     → now ≡ before + cells_at lent.run here → now ≡ cells_of plan.run (passed ++ (here ∷ []))
 filled_more plan lent passed here before now is so_far more =
     more ∙ ap (λ n. n + cells_at lent.run here) so_far ∙ ap (λ (p : Planned). cells_of plan.run passed + cells_at p.run here) is
     ∙ sym (cells-push plan.run passed here)
 
--- a run that came to the next stand is behind one stand more
+-- A run that came to the next stand has one more stand before it.
 pub passed_at : (plan : Planned) (from : Position) (passed : List Stand) (old new : RunState) → Given plan from → IsAt plan from passed old → Passes old new
     → Stands new → IsAt plan from (passed ++ (old.stand ∷ [])) new
 passed_at plan from passed old new given at on stands =
@@ -159,13 +159,13 @@ come_next plan from old new held0 held faults0 faults tally given kept on stands
   same = kept.same;
 }
 
--- fewer rows are left
+-- Fewer rows are left.
 pub fewer_left : (old new : RunState) → Passes old new → suc old.stand.at.number ≡ new.stand.at.number
 fewer_left old new on = next_number old.plan.run old.stand new.stand on.goes
 
 -- ---- The start
 
--- a run that was opened came to its stand
+-- A run that was opened is at its stand.
 pub opened_fresh : (plan : Planned) (from : Position) (r : RunState) → r ≡ arrived plan from (record { at = from; ports = r.stand.ports }) r.before 0 0
     → IsFresh r
 opened_fresh plan from r is =

@@ -24,7 +24,7 @@ pub record Passes (old new : RunState) : Type 0 where
   pub fresh : IsFresh new
   pub filled : AreCellsFilled old new
 
--- It ends where it stands, when all cells there were filled.
+-- The run ended at its stand, when all cells there were filled.
 pub record Stops (old new : RunState) : Type 0 where
   pub ending : Ending
   pub ended : successor old.plan.run old.stand.at old.stand.ports ≡ ends ending
@@ -33,18 +33,18 @@ pub record Stops (old new : RunState) : Type 0 where
   pub phase : new.phase ≡ Ended ending
   pub filled : AreCellsFilled old new
 
--- What became of a row: the run came to the next one, or it came to a stand without a row, or it ended where it stood.
+-- How a run went on from a row: it came to the next row, it came to a stand without a row, or it ended at its stand.
 abbrev pub WentOn : RunState → RunState → Bool → Type 0
 WentOn old new true = Passes old new × ArePortsKnown new.plan.run new.stand
 WentOn old new false = (Passes old new × (ArePortsKnown new.plan.run new.stand → ⊥)) ⊎ Stops old new
 
--- All steps of the phase are there, made by whomever: nothing changed but the cells, and as many were counted as were wanted.
+-- All steps of the phase were made, by anyone: only the cells changed, and as many were counted as were required.
 pub record AreStepsThere (old new : RunState) : Type 0 where
   pub full : AreCellsFull new.cells
   pub is : new ≡ record old { cells = new.cells; found = new.found; own = new.own }
   pub counted : new.found + new.own ≡ old.found + old.own + count_by is_empty_cell old.cells
 
--- The step that was wanted of an instance is there, made by whomever.
+-- The required step of an instance was made, by anyone.
 pub record IsFilled (old : RunState) (instance : ℕ) (new : RunState) : Type 0 where
   pub step : Result Moved Fault
   pub is : new ≡ record old { cells = slice_set old.cells instance (Filled step); found = new.found; own = new.own }

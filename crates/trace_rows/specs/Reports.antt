@@ -1,4 +1,4 @@
--- What a run puts and reports.
+-- What a run writes and reports.
 use Rattle.std.specs.Prelude.{◌≡◌, ℕ, ◌+◌, List, length, Option}
 use Rattle.std.specs.Io.KnownBytes.{Appends}
 use Rattle.cosim_io.specs.Pieces.{AppendsPrefix}
@@ -17,7 +17,7 @@ use Rattle.trace_rows.specs.Sums.{sum_shown}
 use Rattle.trace_rows.specs.declared.report.Report.{Report}
 use Rattle.trace_rows.specs.declared.tally.Tally.{Tally}
 
--- The report of a run that ended so where it stands, without a ticket.
+-- The report of a run that ended at its present stand, without tickets.
 abbrev pub report_of : RunState → Ending → Tally → Report
 report_of r ending tally = record {
   outcome = ending;
@@ -32,7 +32,7 @@ report_of r ending tally = record {
   lapsed = 0;
 }
 
--- A report tells how and where a run ended, and how its steps were made; of tickets it tells nothing.
+-- A report says how and where a run ended, and how its steps were made. It says nothing of tickets.
 pub record TellsRun (r : RunState) (report : Report) : Type 0 where
   pub ended : r.phase ≡ Ended report.outcome
   pub last : report.last ≡ r.stand.at.point
@@ -49,8 +49,8 @@ AreTicketsTold report = report.tickets ≡ report.posted + report.back + report.
 
 -- ---- From the position at which a run was opened
 
--- The lines of the rows of the position's rest were put, and the report is that of this rest: its end, its last point, how many
--- rows it has, the sum of their words, and its cells, which were filled from answers or by the run's own steps.
+-- The lines of the rows of the position's rest were written. The report is that of this rest: its end, its last point, its
+-- number of rows, the sum of their words, and its cells, which were filled from answers or by the run's own steps.
 pub record ReportsRest (plan : Planned) (at : Position) (old new : Option (List ℕ)) (report : Report) : Type 0 where
   pub stands : List Stand
   pub goes_on : GoesOnFrom plan.run at stands report.outcome
@@ -61,14 +61,14 @@ pub record ReportsRest (plan : Planned) (at : Position) (old new : Option (List 
   pub cells : report.found + report.own ≡ cells_of plan.run stands
   pub tickets : AreTicketsTold report
 
--- What was put begins the lines of the position's rest, whatever that is.
+-- The written bytes are a prefix of the lines of the position's rest, for each rest that it has.
 pub record PutsRestFront (plan : Planned) (at : Position) (old new : Option (List ℕ)) : Type 0 where
   pub begins : (stands : List Stand) (ending : Ending) → GoesOnFrom plan.run at stands ending
       → AppendsPrefix old new (lines_of plan.system (rows_of plan.run stands))
 
--- ---- The whole trace, which is the rest of the first position behind the header
+-- ---- The whole trace: the header, and then the rest of the first position
 
--- The text of the system's trace was put, and the report is that of this trace: its end, its last point, how many rows it has,
+-- The text of the system's trace was written. The report is that of this trace: its end, its last point, its number of rows,
 -- the sum of their words, and its cells, which were filled from answers or by the run's own steps.
 pub record ReportsTrace (system : System) (old new : Option (List ℕ)) (report : Report) : Type 0 where
   pub rows : List Row
@@ -79,6 +79,6 @@ pub record ReportsTrace (system : System) (old new : Option (List ℕ)) (report 
   pub cells : HasCells system (report.found + report.own)
   pub tickets : AreTicketsTold report
 
--- What was put begins the text of the system's trace, whatever that is.
+-- The written bytes are a prefix of the text of the system's trace, for each trace that it has.
 pub record PutsFront (system : System) (old new : Option (List ℕ)) : Type 0 where
   pub begins : (rows : List Row) (last : Point) (ending : Ending) → IsTraceOf system rows last ending → AppendsPrefix old new (trace_text system rows)

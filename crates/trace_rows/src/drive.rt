@@ -1,4 +1,4 @@
-//! Runs that are driven from row to row, whose rows are put on the way.
+//! Runs that are driven from row to row, and whose rows are written on the way.
 ghost use Rattle.std.specs.Prelude.{◌≡◌, ◌+◌, ◌*◌, ◌≤◌, length, false, IfOk, OnErr, OnOk};
 ghost use Rattle.trace_core.specs.Runs.{AreCellsFull, IsOpened, RunState, Stands, is_ended};
 ghost use Rattle.trace_core.specs.Settling.{Settled};
@@ -16,26 +16,26 @@ use fixed_words::NoMemory;
 use std::alloc::Global;
 use trace_core::{Phase, Plan, Run, Settle};
 
-/// Who has a run, and drives it from one row to the next: by making its steps, or by taking them from others.
+/// The driver of a run: it leads the run from one row to the next. It makes the steps itself or takes them from others.
 pub trait Drive {
-    /// Where the run is.
+    /// The state of the run.
     ghost state: { Self → RunState };
 
-    /// The run.
+    /// Returns the run.
     fn run(&self) -> &Run
         ensures { result.now ≡ state self.now };
 
-    /// Makes all steps that the phase wants, or takes them from others.
+    /// Makes all steps that the phase requires, or takes them from others.
     ///
     /// # Errors
     ///
-    /// [`NoMemory`]. The run is given up.
+    /// [`NoMemory`]. The run is then given up.
     fn make_steps(&mut self) -> Result<(), NoMemory>
         requires going { is_ended (state self.old).phase ≡ false }
         requires stands { Stands (state self.old) }
         ensures there { OnOk result (AreStepsThere (state self.old) (state self.new)) };
 
-    /// Settles the phase, when all its steps are there.
+    /// Settles the phase, when all its steps are made.
     fn settle(&mut self) -> Settle
         requires going { is_ended (state self.old).phase ≡ false }
         requires full { AreCellsFull (state self.old).cells }
@@ -43,7 +43,7 @@ pub trait Drive {
         ensures stands { Stands (state self.new) };
 }
 
-/// Goes on from a row: the step is made, and made anew where this is asked. The answer tells whether there is a next row.
+/// Goes on from a row: makes the step, and makes it again where a redo is due. Returns whether there is a next row.
 fn advance<D: Drive>(drive: &mut D) -> Result<bool, NoMemory>
     requires fresh { IsFresh (D.state drive.old) }
     requires stands { Stands (D.state drive.old) }
@@ -64,11 +64,11 @@ fn advance<D: Drive>(drive: &mut D) -> Result<bool, NoMemory>
     }
 }
 
-/// Drives a run of the plan from where it was opened to its end: puts each row as one piece, and reports how it ended, without a
-/// ticket.
+/// Drives a run of the plan from where it was opened to its end. Writes each row as one piece, and reports how the run ended.
+/// The report counts no tickets.
 ///
-/// [`CrewFault::WriteFault`] where a put failed, and only there; then, or where there is no memory, what was put begins the text
-/// of the rows from there.
+/// Fails with [`CrewFault::WriteFault`] exactly where a write failed. After a failure the written bytes are a prefix of the text of
+/// the rows from there.
 pub fn put_rest<D: Drive, O: Sink>(
     alloc: Global,
     plan: &Plan,
@@ -95,11 +95,11 @@ pub fn put_rest<D: Drive, O: Sink>(
     Ok(Report::of_run(run, outcome, tally))
 }
 
-/// Drives a run of the plan from its start to its end: puts the header and each row of the trace as one piece, and reports how the
-/// trace ended, without a ticket.
+/// Drives a run of the plan from its start to its end. Writes the header and each row of the trace as one piece, and reports
+/// how the trace ended. The report counts no tickets.
 ///
-/// [`CrewFault::WriteFault`] where a put failed, and only there; then, or where there is no memory, what was put begins the text
-/// of the trace.
+/// Fails with [`CrewFault::WriteFault`] exactly where a write failed. After a failure the written bytes are a prefix of the text of
+/// the trace.
 pub fn put_trace<D: Drive, O: Sink>(
     alloc: Global,
     plan: &Plan,

@@ -7,7 +7,7 @@ use thiserror::Error;
 /// Why a run was given up.
 #[derive(Clone, Copy, Debug, PartialEq, Eq, Error)]
 pub enum CrewFault {
-    /// A put failed.
+    /// A write failed.
     #[error("a write failed")]
     WriteFault,
     #[error("no memory")]

@@ -1,4 +1,4 @@
-//! The header and rows: their text, put as one piece each, and the sums of rows.
+//! The header and the rows: their text, written as one piece each, and the sums of rows.
 ghost use Rattle.std.specs.Prelude.{◌≡◌, ◌<◌, ◌≤◌, ◌^◌, length, OnOk, OnErr};
 ghost use Rattle.std.specs.List.{AllByRecursion};
 ghost use Rattle.std.specs.Io.KnownBytes.{Appends};
@@ -17,10 +17,10 @@ use trace_core::{Plan, Row, Run};
 use trace_csv::{RowWriter, header_text};
 use unit_tree::Column;
 
-/// No line in memory has more columns.
+/// No line that fits in memory has more columns.
 const MOST_COLUMNS: usize = 1 << 32;
 
-/// What the field of a column counts in a sum.
+/// Returns what the field of a column adds to a sum.
 fn word_shown(column: Column, ports: &[i64]) -> i64
     requires { HasWord ports.now column }
     ensures { result ≡ word_shown ports.now column }
@@ -32,7 +32,7 @@ fn word_shown(column: Column, ports: &[i64]) -> i64
     ports[place]
 }
 
-/// The sum of the words that a row shows.
+/// Returns the sum of the words that a row shows.
 fn row_sum(columns: &[Column], ports: &[i64]) -> i128
     requires words { AllByRecursion (HasWord ports.now) columns.now }
     requires few { length columns.now ≤ 2 ^ 32 }
@@ -46,7 +46,7 @@ fn row_sum(columns: &[Column], ports: &[i64]) -> i128
     sum
 }
 
-/// Puts a row as one piece. `writer` makes all rows of the run, and `line` is room for the text of one.
+/// Writes a row as one piece. `writer` makes all rows of the run, and `line` is a buffer for the text of one.
 fn put_line<O: Sink>(
     writer: &mut RowWriter,
     resolution: u8,
@@ -66,9 +66,9 @@ fn put_line<O: Sink>(
     Ok(())
 }
 
-/// Puts the header of a plan's trace as one piece.
+/// Writes the header of a plan's trace as one piece.
 ///
-/// [`CrewFault::WriteFault`] where the put failed, and only there; then, or where there is no memory, what was put begins the
+/// Fails with [`CrewFault::WriteFault`] exactly where the write failed. After a failure the written bytes are a prefix of the
 /// header.
 pub fn put_header<O: Sink>(alloc: Global, plan: &Plan, out: &mut O) -> Result<(), CrewFault>
     ensures whole { OnOk result (Appends (O.held out.old) (O.held out.new) (header_of plan.now.system)) }
@@ -81,7 +81,7 @@ pub fn put_header<O: Sink>(alloc: Global, plan: &Plan, out: &mut O) -> Result<()
     Ok(())
 }
 
-/// What the rows of a run are made with: one writer for all of them, and room for the text of one.
+/// What the rows of a run are made with: one writer for all of them, and a buffer for the text of one.
 #[derive(Drop)]
 pub struct RowRoom {
     writer: RowWriter,
@@ -89,7 +89,7 @@ pub struct RowRoom {
 }
 
 impl RowRoom {
-    /// Room that takes no memory yet; `alloc` is where it comes from later.
+    /// Returns a value that takes no memory yet: `alloc` is where its memory comes from later.
     pub fn new(alloc: Global) -> RowRoom {
         RowRoom {
             writer: RowWriter::new(alloc),
@@ -97,10 +97,10 @@ impl RowRoom {
         }
     }
 
-    /// Puts the row where a run of the plan stands as one piece, if there is one, and counts it.
+    /// Writes the row at which a run of the plan is as one piece, if there is a row, and counts it.
     ///
-    /// [`CrewFault::WriteFault`] where the put failed, and only there; then, or where there is no memory, what was put begins the
-    /// line of the row.
+    /// Fails with [`CrewFault::WriteFault`] exactly where the write failed. After a failure the written bytes are a prefix of the
+    /// row's line.
     pub fn put_row<O: Sink>(
         &mut self,
         plan: &Plan,

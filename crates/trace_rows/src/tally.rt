@@ -1,7 +1,7 @@
 ghost use Rattle.std.specs.Prelude.{◌≡◌, ◌<◌, ◌+◌, ◌*◌, ◌^◌, pos, ◌+ℤ◌};
 ghost use Rattle.trace_rows.specs.Sums.{IsBoundedBy};
 
-/// How many rows were put, and the sum of the words that they show.
+/// How many rows were written, and the sum of the words that they show.
 #[derive(Clone, Copy, Debug)]
 pub struct Tally {
     pub rows: u64,
@@ -10,7 +10,7 @@ pub struct Tally {
 }
 
 impl Tally {
-    /// That of no row.
+    /// Returns the tally of no rows.
     pub fn new() -> Tally
         ensures rows { result.rows ≡ 0 }
         ensures sum { result.sum ≡ pos 0 }
@@ -18,7 +18,7 @@ impl Tally {
         Tally { rows: 0, sum: 0 }
     }
 
-    /// Counts a row, whose words have this sum.
+    /// Counts a row whose words have this sum.
     pub(crate) fn count(&mut self, sum: i128)
         requires rows { self.old.rows < 100000 }
         requires bound { IsBoundedBy (2 ^ 95) sum }

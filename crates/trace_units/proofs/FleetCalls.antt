@@ -1,4 +1,4 @@
--- Calls of one of the units of a plan, as what is seen of them tells it.
+-- Calls of one of the units of a plan, from what contracts see of them.
 use Rattle.std.proofs.Common.{◌≡◌, ◌∙◌, ◌<◌, ℕ, ℤ, List, [], length, get_or, set, Option, Some, Result, Ok, Err, refl, ap, sym, subst}
 use Rattle.std.proofs.lemmas.Option.{same_Some}
 use Rattle.std.specs.Prelude.{slice_get, slice_set, slice_index_or}
@@ -16,7 +16,7 @@ use Rattle.unit_tree.specs.Components.{Moved, max_of, step_of}
 use Rattle.unit_tree.specs.Compositions.{Member}
 use Rattle.unit_tree.specs.Given.{with_input}
 
--- What is seen of units of a plan.
+-- What contracts see of units of a plan.
 abbrev pub seen_of : Planned → List Running → Fleet
 seen_of plan units = record { plan = plan; states = states_held units; inputs = inputs_held units }
 

@@ -1,4 +1,4 @@
--- Units that run as members: what one of them gives, what a change of one keeps, and units at their start.
+-- Units that run as members: the outcomes of one of them, what stays after a change of one, and units at their start.
 use Rattle.std.proofs.Common.{◌≡◌, ◌∙◌, ℕ, zero, suc, ◌+◌, ◌<◌, ◌≤◌, ℤ, List, [], ◌∷◌, ◌++◌, length, map, drop, get_or, set, Option, Some, None, refl, ap, sym}
 use Rattle.std.proofs.Common.{subst, arith, append_assoc, append-nil}
 use Rattle.std.proofs.lemmas.List.{map-set, drop_more, drop_all, length-map}
@@ -90,7 +90,7 @@ unit_at (member ∷ members) (first ∷ units) (suc instance) unit runs within i
 
 -- ---- One unit changes
 
--- The unit has as many words as it had, of the same image.
+-- The unit has the same image and as many words as before.
 pub record KeepsSizes (old new : Running) : Type 0 where
   pub image : new.image ≡ old.image
   pub states : length new.state ≡ length old.state
@@ -156,7 +156,7 @@ inputs_there members units instance unit at = index_or (inputs_held units) insta
 -- ---- Calls of a unit by its number
 
 module _ (run : Composition) (units : List Running) (instance : ℕ) where
-  -- What is given of a member that was found, of its state and of its words.
+  -- The outcome of a member that was found, from its state and its words.
   abbrev of_words : ℕ → Member → List ℤ → Option (List ℤ) → Option Outcome
   of_words number member state found =
       option_and_then (λ words. option_map (get_of member.component state words) (slice_get member.component.unit.outputs number)) found
@@ -173,7 +173,7 @@ module _ (run : Composition) (units : List Running) (instance : ℕ) where
   given_is number unit at =
       ap (of_member number) at.member_is ∙ ap (of_state number at.member) at.state_is ∙ ap (of_words number at.member unit.state) at.inputs_are
 
-  -- An output that can be asked: its unit has it, and gives what the component does.
+  -- An output that can be computed: its unit has it, and its outcome is that of the component.
   pub record Asks (unit : Running) (number : ℕ) : Type 0 where
     pub within : number < length unit.image.program.outputs
     pub gives : given_by run (states_held units) (inputs_held units) instance number ≡ output_by unit.image.program unit.state unit.inputs number
@@ -198,7 +198,7 @@ module _ (run : Composition) (units : List Running) (instance : ℕ) where
   instance_by number None is there = absurd (cc)
   instance_by number (Some member) is there = slice_get_within run.members instance member is
 
-  -- An output can be asked of an instance that there is alone, and an input set.
+  -- An output can be computed, and an input set, only of an existing instance.
   pub asked_within : (number : ℕ) → IsSome (given_by run (states_held units) (inputs_held units) instance number) → instance < length run.members
   asked_within number there = instance_by number (slice_get run.members instance) refl there
 
@@ -225,7 +225,7 @@ pub record Starts (member : Member) (unit : Running) : Type 0 where
   pub is_image : IsImageOf member.component image
   pub is : unit ≡ opened image
 
--- Units are those of the members before some place: with those from there on, they are all.
+-- The units so far are those of the members before some place. With those from there on, they are all.
 abbrev pub IsFront : List Member → ℕ → List Running → Type 0
 IsFront members place units = (rest : List Running) → AllZip Starts (drop place members) rest → AllZip Starts members (units ++ rest)
 

@@ -1,4 +1,4 @@
--- Outputs and inputs of units of a plan by their numbers. What is run of the plan's system is some run that the plan has.
+-- Outputs and inputs of units of a plan by their numbers. The plain form of the plan's system is the run that the plan has.
 use Rattle.std.proofs.Common.{◌≡◌, ◌∙◌, ◌<◌, ℕ, ℤ, List, length, get_or, Option, ap, sym, subst}
 use Rattle.std.specs.Prelude.{IsSome}
 use Rattle.fixed_words.specs.Operations.{Outcome}
@@ -15,7 +15,7 @@ use Rattle.unit_tree.specs.declared.system.System.{System}
 
 module _ (run_from : System → Composition) (plan : Planned) (units : List Running) (seen : Fleet) (is : seen_of plan units ≡ seen)
     (tied : plan.run ≡ run_from plan.system) (runs : RunMembers plan.run units) (instance number : ℕ) where
-  -- What is given, as it is seen.
+  -- The outcome, as contracts see it.
   abbrev given : Fleet → Option Outcome
   given fleet = given_by (run_from fleet.plan.system) fleet.states fleet.inputs instance number
 

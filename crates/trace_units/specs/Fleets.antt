@@ -1,4 +1,4 @@
--- The units of a plan as they stand: what contracts see of them, and what one of them does.
+-- The units of a plan at some moment: what contracts see of them, and what a step of one does.
 use Rattle.std.specs.Prelude.{◌≡◌, ℕ, ℤ, List, [], map, slice_get, slice_set, slice_index_or, Some, Result, Ok, Err}
 use Rattle.fixed_words.specs.declared.types.Fault.{Fault}
 use Rattle.trace_plan.specs.Plans.{Planned}
@@ -6,7 +6,7 @@ use Rattle.unit_exec.specs.Images.{start_inputs_of}
 use Rattle.unit_tree.specs.Components.{step_of}
 use Rattle.unit_tree.specs.Compositions.{Member, Composition}
 
--- A plan, and the state of each instance and the words of its inputs.
+-- A plan, with the state and the words of the inputs of each instance.
 pub record Fleet : Type 0 where
   pub plan : Planned
   pub states : List (List ℤ)
@@ -23,11 +23,11 @@ ForUnit fleet instance Holds =
     → slice_get fleet.inputs instance ≡ Some inputs
     → Holds member state inputs
 
--- An instance has another state.
+-- The units after an instance got another state.
 abbrev pub with_state : Fleet → ℕ → List ℤ → Fleet
 with_state fleet instance state = record fleet { states = slice_set fleet.states instance state }
 
--- An instance made its step: it moved to the state that it has now and accepted a length, or met the fault and moved not.
+-- An instance made its step. It has moved to its present state and accepted a length, or it met the fault and kept its state.
 abbrev pub Steps : Fleet → ℕ → ℕ → ℕ → Result ℕ Fault → Fleet → Type 0
 Steps old instance time step (Ok accepted) new =
     ForUnit old instance (λ member state inputs. step_of member.component state inputs time step

@@ -1,4 +1,4 @@
--- What units keep: each runs the component of its member.
+-- The invariants of units: each runs the component of its member.
 use Rattle.std.specs.Prelude.{◌≡◌, map, ℤ, List}
 use Rattle.std.specs.List.{AllZip}
 use Rattle.trace_units.specs.Fleets.{Fleet}
@@ -27,7 +27,7 @@ inputs_held units = map (λ unit. unit.inputs) units
 abbrev pub fleet : Inside → Fleet
 fleet units = record { plan = units.plan.value; states = states_held units.list.items; inputs = inputs_held units.list.items }
 
--- The plan is that of what is run, and the units are those of its members.
+-- The plan is that of the run, and the units are those of its members.
 pub record AreUnits (units : Inside) : Type 0 where
   pub run : units.plan.value.run ≡ run_of units.plan.value.system
   pub members : RunMembers units.plan.value.run units.list.items

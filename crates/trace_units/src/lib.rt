@@ -1,11 +1,11 @@
-//! The units of a plan: one for each instance, as the components whose ports are solved and which are stepped.
+//! The units of a plan, one for each instance: components whose ports are solved and which make steps.
 //!
-//! [`Units`] meets what `port_solve` asks of components (`Gets` of `unit_tree`), and its other calls do what a run does with
-//! one component: ask its greatest step, step it, and put a state back. By their clauses each is the call of the component
-//! that the definitions of a run speak of. None but [`Units::new`] takes memory.
+//! [`Units`] implements what `port_solve` needs of components (`Gets` of `unit_tree`). Its other calls are those of a run with
+//! one component: get its limit, make its step, and restore a state. Their clauses say that each is the call of the component
+//! in the definitions of a run. Only [`Units::new`] takes memory.
 //!
-//! Definitions: `specs/Fleets.antt` says what contracts see of units, and what one of them does; `specs/Members.antt` what
-//! they keep.
+//! Definitions: `specs/Fleets.antt` states what contracts see of units, and what a step of one does. `specs/Members.antt` has
+//! their invariants.
 #![tactic(auto)]
 
 mod units;

@@ -13,7 +13,7 @@ use trace_plan::Plan;
 use unit_exec::Unit;
 use unit_tree::Gets;
 
-/// A unit for each instance of a plan. Instances are told by their numbers from 0, and there has to be one of that number.
+/// A unit for each instance of a plan. Instances are given by their numbers from 0; each call needs the number of one.
 #[derive(Drop)]
 pub struct Units {
     plan: Arc<Plan>,
@@ -54,13 +54,13 @@ impl Gets for Units {
 }
 
 impl Units {
-    /// The units of a plan at their start: with the start words of their states and inputs.
+    /// Returns the units of a plan at their start: with the start words of their states and inputs.
     pub fn new(alloc: Global, plan: Arc<Plan>) -> Result<Units, NoMemory>
         ensures plan { IfOk result (λ units. units.plan ≡ plan.value) }
         ensures states { IfOk result (λ units. units.states ≡ (first_position plan.value.run).states) }
         ensures inputs { IfOk result (λ units. units.inputs ≡ start_inputs plan.value.run) }
     {
-        // By this call's clause the plan's run is what is run of its system.
+        // The clause of this call says that the plan's run is that of the plain form of its system.
         let _checked = plan.checked();
         let mut list = Vec::new(alloc);
         for instance in 0..plan.instances() {
@@ -70,7 +70,7 @@ impl Units {
         Ok(Units { plan, list })
     }
 
-    /// How many there are: one for each member, with a word for each of its states and of its inputs.
+    /// Returns how many units there are: one for each member, with a word for each of its states and inputs.
     pub fn count(&self) -> u32
         ensures count { result ≡ length self.now.plan.run.members }
         ensures run { self.now.plan.run ≡ run_of self.now.plan.system }
@@ -80,7 +80,7 @@ impl Units {
         self.plan.instances()
     }
 
-    /// The state of an instance.
+    /// Returns the state of an instance.
     pub fn state(&self, instance: u32) -> &[i64]
         requires { instance < length self.now.plan.run.members }
         ensures { slice_get self.now.states instance ≡ Some result.now }
@@ -88,7 +88,7 @@ impl Units {
         self.list[instance as usize].state()
     }
 
-    /// The words of an instance's inputs.
+    /// Returns the words of an instance's inputs.
     pub fn inputs(&self, instance: u32) -> &[i64]
         requires { instance < length self.now.plan.run.members }
         ensures { slice_get self.now.inputs instance ≡ Some result.now }
@@ -96,8 +96,8 @@ impl Units {
         self.list[instance as usize].inputs()
     }
 
-    /// The greatest step that an instance will accept at its local time `time`, in its local ticks; none where it sets no
-    /// limit. All units stay.
+    /// Returns the limit of an instance at its local time `time`, in its local ticks, or `None` where it sets no limit. All units
+    /// stay as they are.
     pub fn max_step(&mut self, instance: u32, time: u64) -> Result<Option<u64>, Fault>
         requires there { instance < length self.old.plan.run.members }
         requires time { time ≤ 10 ^ 15 }
@@ -107,8 +107,8 @@ impl Units {
         self.list[instance as usize].max_step(time)
     }
 
-    /// Steps an instance at its local time `time` by `step` of its local ticks. The answer is the length that it accepted, in
-    /// its local ticks. The other units stay, and after a fault all of them.
+    /// Steps an instance from its local time `time` by `step` of its local ticks. Returns the length that it accepted, in its local
+    /// ticks. The other units stay as they are; after a fault all of them do.
     pub fn do_step(&mut self, instance: u32, time: u64, step: u64) -> Result<u64, Fault>
         requires there { instance < length self.old.plan.run.members }
         requires end { time + step ≤ 10 ^ 15 }
@@ -117,7 +117,7 @@ impl Units {
         self.list[instance as usize].do_step(time, step)
     }
 
-    /// Gives an instance a state.
+    /// Sets the state of an instance.
     pub fn restore(&mut self, instance: u32, state: &[i64])
         requires there { instance < length self.old.plan.run.members }
         requires same_length { length state.now ≡ length (slice_index_or self.old.states instance []) }

@@ -1,4 +1,4 @@
--- What a line comes to beside the next record, and what becomes of a comparison.
+-- The comparison of a line with the next record, and the state of a comparison after it.
 use Rattle.std.proofs.Common.{◌≡◌, ℕ, suc, ◌+◌, ◌-◌, ◌≤◌, true, false, List, [], ◌∷◌, ◌++◌, Bor, take, drop, length, Some, None, refl, ap, sym, subst, ◌∙◌, arith, zero, append_assoc, append-nil}
 use Rattle.csv.specs.declared.reader.Reader.{Reader}
 use Rattle.std.specs.List.{AllByRecursion}
@@ -80,7 +80,7 @@ line_put records number next line old new kept is judged =
     ∙ ap (λ text. before ++ text) (append-nil (line_of (fields_between line)) ∙ ap (λ text. text ++ (10 ∷ [])) (join_with_byte-slice_split 44 line))
     ∙ sym (append_assoc before line (10 ∷ [])) ∙ ap (λ text. (before ++ text) ++ (10 ∷ [])) (sym (append-nil line))
 
--- The line is that of the next record, which is told: so it was put to its end.
+-- The line is compared with the next record. Where they differ, it was written to its end.
 abbrev pub seen : List ℕ → ℕ → List ℕ → Course → ℕ → Compared
 seen table number line told faults = record { table = table; number = number; line = line; course = told; faults = faults }
 

@@ -47,7 +47,7 @@ others_shorter line others is =
     subst (λ left. length_left left ≤ length line) (sym is)
     (omega (arith, behind_shorter (drop (prefix_len is_inside line) line), length-drop (prefix_len is_inside line) line))
 
--- ---- A field in a place
+-- ---- A field at a place
 
 abbrev pub is_there : List ℕ → Option (List ℕ) → Bool
 is_there piece None = false
@@ -64,7 +64,7 @@ pub next_by : (fields : Fields) (place : ℕ) (piece : List ℕ) (found : Option
     → is_there piece found ≡ is_next piece (drop place fields)
 next_by fields place piece found is = ap (is_there piece) is ∙ sym (next_there fields place piece)
 
--- ---- A line beside a record
+-- ---- A line and a record
 
 pub piece_apart : (column : ℕ) (piece : List ℕ) (others fields : Fields) → is_next piece fields ≡ false → column_from column (piece ∷ others) fields ≡ Some column
 piece_apart column piece others [] told = refl
@@ -80,7 +80,7 @@ piece_same column piece others (field ∷ fields) told =
 pub one_dropped : (place : ℕ) (fields : Fields) → drop 1 (drop place fields) ≡ drop (place + 1) fields
 one_dropped place fields = drop-drop 1 place fields
 
--- The fields of a record that are left behind the last piece.
+-- The fields of a record that are left after the last piece.
 pub left_over : (column place : ℕ) (fields : Fields) → place < length fields → column_from column [] (drop place fields) ≡ Some column
 left_over column zero [] more = absurd (omega arith)
 left_over column (suc place) [] more = absurd (omega arith)

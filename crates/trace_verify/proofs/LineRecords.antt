@@ -16,7 +16,7 @@ use Rattle.stimulus_tables.proofs.ReadingLaws.{no_record, one_record}
 
 -- ---- Plain bytes
 
--- A plain byte is none of the four.
+-- A plain byte is not one of the four special ones.
 pub record IsNone (byte : ℕ) : Type 0 where
   pub comma : (byte == 44) ≡ false
   pub quote : (byte == 34) ≡ false
@@ -32,7 +32,7 @@ none_of_four byte is =
 
 -- ---- States
 
--- A state in which a plain byte joins the field at hand, and one in which a field of the record has begun.
+-- A state in which a plain byte continues the present field, and one in which a field of the record has begun.
 abbrev IsReady : State → Type 0
 IsReady state.StartRecord = ⊤
 IsReady state.StartField = ⊤
@@ -89,7 +89,7 @@ is_ready state.AfterCr begun = begun
 
 -- ---- Fields
 
--- What is read by one byte, of which the step is known.
+-- The effect of one byte, whose step is known.
 one_byte : (at : State) (fields : Fields) (field : List ℕ) (byte : ℕ) (rest : List ℕ) (to : State × Action) → step default_config at byte ≡ to
     → next_record default_config at fields field (byte ∷ rest)
     ≡ (if is_end to.1 then Some (fields_after to.1 fields field, to.0, rest) else next_record default_config to.0 (fields_after to.1 fields field) (field_after to.1 byte field) rest)
@@ -97,7 +97,7 @@ unfolding next_record
 one_byte at fields field byte rest to is =
     ap (λ (p : State × Action). if is_end p.1 then Some (fields_after p.1 fields field, p.0, rest) else next_record default_config p.0 (fields_after p.1 fields field) (field_after p.1 byte field) rest) is
 
--- A plain field, and the comma behind it.
+-- A plain field, and the comma after it.
 to_comma : (at : State) (fields : Fields) (field more rest : List ℕ) → IsReady at → IsPlain more
     → next_record default_config at fields field (more ++ (44 ∷ rest)) ≡ next_record default_config state.StartField (fields ++ ((field ++ more) ∷ [])) [] rest
 to_comma at fields field [] rest ready plain =
@@ -108,7 +108,7 @@ to_comma at fields field (byte ∷ more) rest ready plain =
     ∙ to_comma state.InField fields (field ++ (byte ∷ [])) more rest tt plain.1
     ∙ ap (λ f. next_record default_config state.StartField (fields ++ (f ∷ [])) [] rest) (append_assoc field (byte ∷ []) more)
 
--- A plain field, and the LF behind it.
+-- A plain field, and the LF after it.
 to_feed : (at : State) (fields : Fields) (field more rest : List ℕ) → HasBegun at → IsPlain more
     → next_record default_config at fields field (more ++ (10 ∷ rest)) ≡ Some (fields ++ ((field ++ more) ∷ []), state.StartRecord, rest)
 to_feed at fields field [] rest begun plain =
@@ -159,7 +159,7 @@ unmarked first [] is = refl
 unmarked first (second ∷ []) is = refl
 unmarked first (second ∷ third ∷ rest) is = rw is refl
 
--- The records of a text of lines of a trace, whose first byte is no mark's, are the fields of these lines.
+-- The records of a text of lines of a trace, whose first byte is not that of a mark, are the fields of these lines.
 pub lines_read : (first : ℕ) (rest : List ℕ) (lines : List Fields) → (first == 239) ≡ false → first ∷ rest ≡ lines_text lines → AllByRecursion IsTraceLine lines
     → records_of (lines_text lines) ≡ lines
 lines_read first rest lines unlike begins all =

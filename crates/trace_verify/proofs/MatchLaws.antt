@@ -1,4 +1,4 @@
--- What was put, beside the lines of a trace.
+-- What was written, compared with the lines of a trace.
 use Rattle.std.proofs.Common.{◌≡◌, ℕ, zero, suc, ◌+◌, ◌-◌, ◌≤◌, ◌==◌, false, List, [], ◌∷◌, ◌++◌, take, drop, length, None, refl, ap, ap₂, sym, subst, ◌∙◌, arith, append_assoc, append-nil}
 use Rattle.std.specs.List.{AllByRecursion, join_with_byte, onto_first}
 use Rattle.list_laws.proofs.Lists.{each_so, same_first, same_rest}
@@ -65,7 +65,7 @@ no_bytes : (one : List ℕ) (rest : List ℕ) → one ++ 10 ∷ rest ≡ [] → 
 no_bytes [] rest is = cc is
 no_bytes (byte ∷ one) rest is = cc is
 
--- A line is put behind some that are the same: then it is that of the next fields.
+-- A line is written after some that are the same: then it is that of the next fields.
 parted : (same lines : List Fields) (line rest : List ℕ) → AllByRecursion IsOneLine same → AllByRecursion IsOneLine lines → HasNoFeed line
     → lines_text same ++ (line ++ 10 ∷ rest) ≡ lines_text lines → (more : List Fields) × (lines ≡ same ++ (fields_between line ∷ more))
 parted [] [] line rest are all none is = absurd (no_bytes line rest is)
@@ -82,7 +82,7 @@ parted (one ∷ same) (fields ∷ lines) line rest are all none is =
     let later = parted same lines line rest are.1 all.1 none first.1 in
     (later.0, ap₂ (λ f fs. f ∷ fs) (sym all.0.is_cut ∙ ap fields_between (sym first.0) ∙ are.0.is_cut) later.1)
 
--- All lines were put.
+-- All lines were written.
 all_put : (same lines : List Fields) (line : List ℕ) → AllByRecursion IsOneLine same → AllByRecursion IsOneLine lines → HasNoFeed line
     → lines_text same ++ line ≡ lines_text lines → lines ≡ same
 all_put [] [] line are all none is = refl
@@ -96,7 +96,7 @@ all_put (one ∷ same) (fields ∷ lines) line are all none is =
     let first = first_line (join_with_byte 44 one) (join_with_byte 44 fields) (lines_text same ++ line) (lines_text lines) are.0.unended all.0.unended whole in
     ap₂ (λ f fs. f ∷ fs) (sym all.0.is_cut ∙ ap fields_between (sym first.0) ∙ are.0.is_cut) (all_put same lines line are.1 all.1 none first.1)
 
--- ---- Verdicts behind what is the same
+-- ---- Verdicts after what is the same
 
 column_same : (column : ℕ) (fields : Fields) → column_from column fields fields ≡ None
 column_same column [] = refl
@@ -121,7 +121,7 @@ module _ (records : List Fields) (number : ℕ) (line : List ℕ) (counted : 1 �
       let is : 1 + (number - 1) ≡ number = omega (arith, counted) in
       verdict_behind 1 (number - 1) records rest within ∙ ap (λ n. verdict_from n rest (drop (number - 1) records)) is
 
-  -- The line that was put last is another one than its record.
+  -- The line that was written last differs from its record.
   pub told_apart : (column : ℕ) (rest : List ℕ) → lines_text (take (number - 1) records) ++ (line ++ 10 ∷ rest) ≡ lines_text lines
       → ((more : List Fields) → verdict_from number (fields_between line ∷ more) (drop (number - 1) records) ≡ No number column)
       → No number column ≡ verdict_of lines records
@@ -129,7 +129,7 @@ module _ (records : List Fields) (number : ℕ) (line : List ℕ) (counted : 1 �
       let cut_there = parted (take (number - 1) records) lines line rest cut one_lines unended is in
       sym (ap (λ given. verdict_of given records) cut_there.1 ∙ from_number (fields_between line ∷ cut_there.0) ∙ apart cut_there.0)
 
-  -- All lines were put, and are the records that were read.
+  -- All lines were written, and are the records that were read.
   whole_read : lines_text (take (number - 1) records) ++ line ≡ lines_text lines → verdict_of lines records ≡ verdict_from number [] (drop (number - 1) records)
   whole_read is =
       ap (λ given. verdict_of given records) (all_put (take (number - 1) records) lines line cut one_lines unended is ∙ sym (append-nil (take (number - 1) records)))

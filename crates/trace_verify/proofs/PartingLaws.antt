@@ -1,4 +1,4 @@
--- An input has one front and one table, or no line `trace`.
+-- An input has exactly one text and one table, or no line `trace`.
 use Rattle.std.proofs.Common.{◌≡◌, ℕ, zero, suc, ◌-◌, ◌<◌, ◌≤◌, ◌==◌, Bool, true, false, List, [], ◌∷◌, ◌++◌, length, length-append, take, drop, inl, inr}
 use Rattle.std.proofs.Common.{None, refl, sym, ap, ap₂, subst, ◌∙◌, arith, append_assoc, append-nil, take-append-drop, lit<}
 use Rattle.std.specs.Prelude.{◌⊎◌, not, codes, if◌then◌else◌}
@@ -35,7 +35,7 @@ no_keyword = refl
 is_name : IsName (codes "trace")
 is_name = ((refl, refl, lit< tt), keyword_of_none (codes "trace") no_keyword)
 
--- Nothing of a word follows where only blanks do.
+-- Where only blanks follow, no word follows.
 ends_there : (rest : List ℕ) → list_all is_blank rest ≡ true → begins_with is_word_byte rest ≡ false
 ends_there [] blank = refl
 ends_there (byte ∷ rest) blank = by byte (and_parts (is_blank byte) (list_all is_blank rest) blank).0
@@ -59,7 +59,7 @@ word_there code rest is blank = (
   blank,
 )
 
--- The word, with blanks behind it.
+-- The word, and then blanks.
 abbrev pub HasWord : List ℕ → Type 0
 HasWord code = (rest : List ℕ) × (behind_blanks code ≡ word ++ rest) × (list_all is_blank rest ≡ true)
 
@@ -76,7 +76,7 @@ word_behind code (rest, begins, blank) = (
   blank,
 )
 
--- What the code tells.
+-- Whether the code is the word.
 pub word_told : (code rest : List ℕ) (told : Bool) → behind_blanks code ≡ word ++ rest → told ≡ list_all is_blank rest → Decides told (Spells trace_tokens code)
 word_told code rest true cut is = word_there code rest cut (sym is)
 word_told code rest false cut is = λ spelled. no (word_behind code spelled)
@@ -133,7 +133,7 @@ trace_written line is none = no (word_behind [] (subst IsPartingLine none is))
     no : HasWord [] → ⊥
     no (rest, cut, blank) = cc cut
 
--- The lines from a line with its end on, where it has bytes.
+-- The lines from a line on, with its end, where it has bytes.
 lines_from : (behind line table : List ℕ) → IsCutBehind behind line table → IsWhole line → (line ≡ [] → ⊥) → lines_of behind ≡ line ∷ lines_of table
 lines_from behind line table (inl cut) whole some = ap lines_of cut ∙ line_more line table whole
 lines_from behind [] table (inr cut) whole some = absurd (some refl)
@@ -185,7 +185,7 @@ only input front other table also is too =
 
 -- ---- One line after the other
 
--- The lines of the input up to the rest were others.
+-- The lines of the input before the rest were others.
 pub record IsPassed (input rest : List ℕ) : Type 0 where
   pub before : List (List ℕ)
   pub lines : lines_of input ≡ before ++ lines_of rest
@@ -226,7 +226,7 @@ passed_more input rest line behind passed next other = record {
         ∙ sym (append_assoc (ended passed.before) (line ++ 10 ∷ []) behind)
         ∙ ap (λ front. front ++ behind) (sym (ended_more passed.before line)))
 
--- The front and the table, where the next line is `trace`.
+-- The text and the table, where the next line is `trace`.
 pub parted_here : (input rest line behind : List ℕ) (passed : IsPassed input rest) → IsNextLine rest line behind → IsPartingLine line
     → IsParted input (ended passed.before) behind
 parted_here input rest line behind passed next is = record {
@@ -288,7 +288,7 @@ shorter rest line behind next = by next.cut
     by (inl cut) = omega (arith, ap length cut, length-append line (10 ∷ behind))
     by (inr last) = omega (arith, next.written, ap length last.1)
 
--- with what the next line is, and the lines behind it
+-- By the next line, and the lines after it.
 next_answered : (input rest line behind : List ℕ) (passed : IsPassed input rest) → IsNextLine rest line behind → Decided (IsPartingLine line)
     → (IsPassed input behind → Answer input) → Answer input
 next_answered input rest line behind passed next (inl is) later = inl (ended passed.before, behind, parted_here input rest line behind passed next is)

@@ -1,4 +1,4 @@
--- What a comparison tells of what was put.
+-- What a comparison says of what was written.
 use Rattle.std.proofs.Common.{◌≡◌, ℕ, ◌-◌, Bool, true, false, List, [], ◌∷◌, ◌++◌, Bor, take, drop, ap, sym, subst, ◌∙◌, append_assoc, append-nil}
 use Rattle.std.specs.List.{AllByRecursion}
 use Rattle.std.proofs.lemmas.List.{take-append-drop}
@@ -14,7 +14,7 @@ use Rattle.trace_verify.specs.declared.verdict.Verdict.TheVariants.{Yes, No}
 use Rattle.trace_verify.proofs.CourseLaws.{seen}
 use Rattle.trace_verify.proofs.MatchLaws.{told_apart, told_more, told_same}
 
--- A front of a text, with what is left of it.
+-- A prefix of a text, with what is left of it.
 begun_by : (whole : Bool) (front line text : List ℕ) → Begins whole (front ++ (line ++ (10 ∷ []))) text → (rest : List ℕ) × (front ++ (line ++ 10 ∷ rest) ≡ text)
 begun_by true front line text is = ([], is)
 begun_by false front line text is =
@@ -34,7 +34,7 @@ apart_told table number column faults line told reader kept is lines all whole b
     let apart = subst (IsCourse (drop (number - 1) (records_of table)) line reader) is kept.course in
     told_apart (records_of table) number line kept.counted kept.within kept.cut kept.unended lines all column put.0 put.1 (apart number)
 
--- All was put, and all is the same.
+-- All was written, and all is the same.
 same_text : (table : List ℕ) (number faults : ℕ) (line : List ℕ) (told : Course) (lines : List Fields) → told ≡ course.Same
     → text_put (seen table number line told faults) ≡ lines_text lines → lines_text (take (number - 1) (records_of table)) ++ line ≡ lines_text lines
 same_text table number faults line told lines is put =

@@ -9,7 +9,7 @@ use Rattle.stimulus_tables.specs.Records.{Fields}
 use Rattle.trace_verify.specs.declared.verdict.Verdict.{Verdict}
 use Rattle.trace_verify.specs.declared.verdict.Verdict.TheVariants.{Yes, No}
 
--- Two lists whose first elements have a number part at another one.
+-- Two lists, whose first elements have this number, first differ at the element with this other number.
 pub record PartFrom {A : Type 0} (first : ℕ) (ones others : List A) (number : ℕ) : Type 0 where
   pub place : ℕ
   pub is : number ≡ first + place

@@ -1,4 +1,4 @@
--- The verdict on a table beside the trace of a system.
+-- The verdict on a table and the trace of a system.
 use Rattle.std.proofs.Common.{◌≡◌, ℕ, suc, List, [], ◌∷◌, ◌++◌, map, take, drop, Some, Result, Ok, Err, refl, ap, ap₂, sym, subst, ◌∙◌, arith, append_assoc}
 use Rattle.std.specs.Prelude.{codes, IfOk, OnErr}
 use Rattle.std.specs.Io.KnownBytes.{Appends}
@@ -88,7 +88,7 @@ records_are system ranged rows =
 
 -- ---- What the sink holds
 
--- Two texts that tell where they end, with something behind each.
+-- Two texts with marks at their ends, and something after each.
 marked_apart : (one other rest behind : List ℕ) → marked one ++ rest ≡ marked other ++ behind → (one ≡ other) × (rest ≡ behind)
 marked_apart [] [] rest behind is = (refl, same_rest 0 0 rest behind is)
 marked_apart [] (byte ∷ other) rest behind is = absurd (none (same_first 0 (suc byte) rest (marked other ++ behind) is))
@@ -106,7 +106,7 @@ marked_apart (byte ∷ one) (next ∷ other) rest behind is =
     one_less : (a b : ℕ) → suc a ≡ suc b → a ≡ b
     one_less a b same = omega (arith, same)
 
--- A comparison of which this was put, from its beginning.
+-- A comparison to which this was written, from its beginning.
 held_by : (table text : List ℕ) (new : Compared) → Appends (Some (all_held (begun table))) (Some (all_held new)) text → (new.table ≡ table) × (text_put new ≡ text)
 held_by table text new appends =
     marked_apart new.table table (text_put new) text

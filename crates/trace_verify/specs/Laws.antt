@@ -4,11 +4,11 @@ use Rattle.trace_verify.specs.Parting.{IsParted, LacksTrace}
 use Rattle.trace_verify.specs.Verdicts.{IsRight, verdict_of}
 use Rattle.stimulus_tables.specs.Records.{Fields}
 
--- The verdict on records is right, whatever they are.
+-- The verdict on any records is right.
 abbrev pub VerdictsAreRight : Type 0
 VerdictsAreRight = (wanted given : List Fields) → IsRight wanted given (verdict_of wanted given)
 
--- An input has one front and one table, or no line `trace`, and not both.
+-- An input has exactly one text and one table, or no line `trace`.
 pub record IsPartedOnce (input : List ℕ) : Type 0 where
   pub some : ((front : List ℕ) × (table : List ℕ) × IsParted input front table) ⊎ LacksTrace input
   pub only : (front other table also : List ℕ) → IsParted input front table → IsParted input other also → (front ≡ other) × (table ≡ also)

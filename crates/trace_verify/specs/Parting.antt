@@ -1,4 +1,4 @@
--- A text and a table in one input: the line `trace` stands between them.
+-- A text and a table in one input, with the line `trace` between them.
 use Rattle.std.specs.Prelude.{◌≡◌, ◌⊎◌, ℕ, ◌==◌, not, List, [], ◌∷◌, ◌++◌, codes, IsTrue}
 use Rattle.std.specs.List.{AllByRecursion, flat_map, list_all}
 use Rattle.unit_tree.specs.Lines.{code_of, lines_of, without_return}
@@ -6,18 +6,18 @@ use Rattle.unit_tree.specs.Tokens.{Spells}
 use Rattle.unit_tree.specs.declared.token.Token.{Token}
 use Rattle.unit_tree.specs.declared.token.Token.TheVariants as token
 
--- `trace`, which is no reserved word.
+-- `trace`, which is not a reserved word.
 abbrev pub trace_tokens : List Token
 trace_tokens = token.Name (codes "trace") ∷ []
 
--- The line, without its LF, holds this one word. Blanks, a comment and a CR at its end are as on any line of a text.
+-- The line, without its LF, has only this word. Blanks, a comment and a CR at its end are allowed as on any line of a text.
 abbrev pub IsPartingLine : List ℕ → Type 0
 IsPartingLine line = Spells trace_tokens (code_of (without_return line))
 
 abbrev pub IsOtherLine : List ℕ → Type 0
 IsOtherLine line = IsPartingLine line → ⊥
 
--- No end stands in the line.
+-- The line has no end in it.
 abbrev pub IsWhole : List ℕ → Type 0
 IsWhole line = IsTrue (list_all (λ byte. not (byte == 10)) line)
 
@@ -25,11 +25,11 @@ IsWhole line = IsTrue (list_all (λ byte. not (byte == 10)) line)
 abbrev pub ended : List (List ℕ) → List ℕ
 ended lines = flat_map (λ line. line ++ 10 ∷ []) lines
 
--- The line and its end come first, and the rest stands behind them; the last line may lack its end.
+-- A text is this line, its end and then the rest. The last line may lack its end.
 abbrev pub IsCutBehind : List ℕ → List ℕ → List ℕ → Type 0
 IsCutBehind text line rest = (text ≡ line ++ 10 ∷ rest) ⊎ ((text ≡ line) × (rest ≡ []))
 
--- The input has these parts: the lines before its first line `trace`, and the bytes behind that line.
+-- The parts of the input: the lines before its first line `trace`, and the bytes after that line.
 pub record IsParted (input front table : List ℕ) : Type 0 where
   pub before : List (List ℕ)
   pub line : List ℕ

@@ -8,7 +8,7 @@ use Rattle.stimulus_tables.specs.Records.{Fields}
 abbrev pub line_of : Fields → List ℕ
 line_of fields = join_with_byte 44 fields ++ 10 ∷ []
 
--- A byte by which a table is cut: a comma, a quote, CR or LF.
+-- A byte that matters in CSV: a comma, a quote, CR or LF.
 abbrev pub is_special : ℕ → Bool
 is_special byte = (byte == 44) || ((byte == 34) || ((byte == 13) || (byte == 10)))
 
@@ -16,7 +16,7 @@ is_special byte = (byte == 44) || ((byte == 34) || ((byte == 13) || (byte == 10)
 abbrev pub IsPlain : List ℕ → Type 0
 IsPlain field = AllByRecursion (λ byte. is_special byte ≡ false) field
 
--- The fields of a line of a trace: two at least, of which none has such bytes.
+-- The fields of a line of a trace: at least two, and none has such bytes.
 pub record IsTraceLine (fields : Fields) : Type 0 where
   pub plain : AllByRecursion IsPlain fields
   pub two : 2 ≤ length fields
@@ -25,13 +25,13 @@ pub record IsTraceLine (fields : Fields) : Type 0 where
 abbrev pub lines_text : List Fields → List ℕ
 lines_text lines = flat_map line_of lines
 
--- What stands between the commas of a line.
+-- The fields of a line: the bytes between its commas.
 abbrev pub fields_between : List ℕ → Fields
 fields_between line = slice_split (λ byte. byte == 44) line
 
 -- ---- Fields of a line, one after the other
 
--- Whether a byte stands in a field, and not between two.
+-- Whether a byte belongs to a field: it is not a comma.
 abbrev pub is_inside : ℕ → Bool
 is_inside byte = not (byte == 44)
 
@@ -39,12 +39,12 @@ is_inside byte = not (byte == 44)
 abbrev pub first_field : List ℕ → List ℕ
 first_field line = take (prefix_len is_inside line) line
 
--- What stands behind a comma that comes first.
+-- The bytes after a comma, where the first byte is one.
 abbrev pub behind_comma : List ℕ → Option (List ℕ)
 behind_comma [] = None
 behind_comma (comma ∷ more) = Some more
 
--- The bytes behind the first comma, where there is one.
+-- The bytes after the first comma, where there is one.
 abbrev pub other_fields : List ℕ → Option (List ℕ)
 other_fields line = behind_comma (drop (prefix_len is_inside line) line)
 

@@ -9,8 +9,7 @@ use Rattle.unit_tree.specs.Trace.{IsTraceOf, Row}
 use Rattle.unit_tree.specs.declared.ending.Ending.{Ending}
 use Rattle.unit_tree.specs.declared.system.System.{System}
 
--- The verdict is that on the records of the table, which should be those of the text of the system's trace. How the trace ends doesn't
--- matter.
+-- The verdict compares the records of the table with those of the text of the system's trace. How the trace ends doesn't matter.
 pub record IsVerdictOn (system : System) (table : List ℕ) (verdict : Verdict) : Type 0 where
   pub is : (rows : List Row) (last : Point) (ending : Ending) → IsTraceOf system rows last ending
       → verdict ≡ verdict_of (records_of (trace_text system rows)) (records_of table)

@@ -1,4 +1,4 @@
-//! A sink that compares what is put with a table.
+//! A sink that compares written bytes with a table.
 ghost use Rattle.std.specs.Prelude.{◌≡◌, ◌≤◌, ◌++◌, ◌∷◌, ◌⊎◌, [], true, false, List, drop, length, IfOk, IsErr, Some};
 ghost use Rattle.std.specs.List.{AllByRecursion, prefix_len};
 ghost use Rattle.std.specs.Option.{option_map};
@@ -18,21 +18,21 @@ use std::alloc::{AllocError, Global};
 use std::marker::Model;
 use stimulus_tables::{read_table, take_record};
 
-/// What a comparison has come to.
+/// The state of a comparison.
 #[derive(Clone, Copy)]
 pub(crate) enum Course {
-    /// All lines were the records of the table.
+    /// All lines so far were the records of the table.
     Same,
-    /// A line was another one than its record, or the table has no record for it.
+    /// A line differs from its record, or the table has no record for it.
     Differs {
-        /// The number of the first field that is another one, from 1.
+        /// The number of the first field that differs, from 1.
         column: u64,
     },
-    /// There was no memory.
+    /// Memory was refused.
     NoMemory,
 }
 
-/// How many bytes come before the first comma.
+/// Returns how many bytes come before the first comma.
 fn field_length(line: &[u8]) -> usize
     ensures length { result ≡ prefix_len is_inside line.now }
     ensures within { result ≤ length line.now }
@@ -40,7 +40,7 @@ fn field_length(line: &[u8]) -> usize
     line.iter().take_while(|byte| **byte != b',').count()
 }
 
-/// The bytes before the first comma, and those behind it, where there is one.
+/// Returns the bytes before the first comma and, where there is one, those after it.
 fn cut_field(line: &[u8]) -> (&[u8], Option<&[u8]>)
     ensures first { result.0.now ≡ first_field line.now }
     ensures others { option_map (λ others. others.now) result.1 ≡ other_fields line.now }
@@ -52,7 +52,7 @@ fn cut_field(line: &[u8]) -> (&[u8], Option<&[u8]>)
     }
 }
 
-/// Whether the field of a record in a place, from 0, has these bytes.
+/// Returns whether the field of a record at a place, from 0, has these bytes.
 fn is_field(fields: &ByteRecord, place: usize, piece: &[u8]) -> bool
     ensures { result ≡ is_next piece.now (drop place (fields_of fields.now)) }
 {
@@ -62,7 +62,7 @@ fn is_field(fields: &ByteRecord, place: usize, piece: &[u8]) -> bool
     }
 }
 
-/// The number of the first field, from 1, in which a line and a record differ.
+/// Returns the number of the first field, from 1, in which a line and a record differ, or `None` where they are equal.
 fn column_apart(line: &[u8], fields: &ByteRecord) -> Option<u64>
     ensures { result ≡ column_from 1 (fields_between line.now) (fields_of fields.now) }
 {
@@ -83,7 +83,7 @@ fn column_apart(line: &[u8], fields: &ByteRecord) -> Option<u64>
     }
 }
 
-/// What a whole line comes to beside the next record, which is put in the place of what `fields` holds.
+/// Compares a whole line with the next record, which replaces the contents of `fields`.
 fn judge(reader: &mut Reader<&[u8]>, fields: &mut ByteRecord, line: &[u8]) -> Course
     ensures { (rest : List Fields) → Gives reader.old rest → IsJudged rest line.now reader.new result }
 {
@@ -97,16 +97,16 @@ fn judge(reader: &mut Reader<&[u8]>, fields: &mut ByteRecord, line: &[u8]) -> Co
     }
 }
 
-/// A sink that compares the lines that are put with the records of a table, one after the other. It keeps one line and one record. At
-/// the first line that is another one than its record it fails, so that no more is put.
+/// A sink that compares the written lines with the records of a table, one after the other. It keeps one line and one record.
+/// At the first line that differs from its record it fails, so that no more is written.
 #[derive(Drop)]
 pub(crate) struct Comparison<'t> {
     table: &'t [u8],
     reader: Reader<&'t [u8]>,
     fields: ByteRecord,
-    /// The number of the record that is next, from 1.
+    /// The number of the next record, from 1.
     number: u64,
-    /// What was put of the line that is compared with it, without its end.
+    /// What was written so far of the line that is compared with this record, without its end.
     line: Vec<u8>,
     course: Course,
     faults: u64,
@@ -123,7 +123,7 @@ impl<'t> Model for Comparison<'t> {
 }
 
 impl<'t> Comparison<'t> {
-    /// A comparison with a table, of which nothing was put yet.
+    /// Returns a comparison with a table, to which nothing was written yet.
     pub(crate) fn new(alloc: Global, table: &'t [u8]) -> Comparison<'t>
         ensures { result ≡ begun table.now }
     {
@@ -138,7 +138,7 @@ impl<'t> Comparison<'t> {
         }
     }
 
-    /// Compares the line that is whole with the next record.
+    /// Compares the complete line with the next record.
     fn end_line(&mut self)
         requires { self.old.course ≡ Course.Same }
         ensures { PutsByte self.old self.new 10 (goes_on self.new.course) }
@@ -154,7 +154,7 @@ impl<'t> Comparison<'t> {
             }
         }
     }
-    /// Takes a byte behind what was put. The answer tells whether all is the same until there.
+    /// Takes the next written byte. Returns whether all is the same so far.
     fn take_byte(&mut self, byte: u8) -> bool
         ensures { PutsByte self.old self.new byte result }
     {
@@ -169,14 +169,14 @@ impl<'t> Comparison<'t> {
         self.is_same()
     }
 
-    /// Whether all that was put is the same as the table until there.
+    /// Returns whether all that was written is the same as the table so far.
     fn is_same(&self) -> bool
         ensures { result ≡ goes_on self.now.course }
     {
         matches!(self.course, Course::Same)
     }
 
-    /// Counts a put that failed.
+    /// Counts a write that failed.
     fn fail(&mut self) -> Result<(), Failed>
         ensures failed { IsErr result }
         ensures same { all_held self.new ≡ all_held self.old }
@@ -185,7 +185,7 @@ impl<'t> Comparison<'t> {
         self.faults = self.faults.saturating_add(1);
         Err(Failed)
     }
-    /// The verdict where all of a trace was put that is the same: whether the table has no more.
+    /// Returns the verdict after a whole trace that is the same: whether the table has no further records.
     fn at_end(self) -> Result<Verdict, NoMemory>
         requires { self.course ≡ Course.Same }
         ensures { (lines : List Fields) → AllByRecursion IsTraceLine lines → text_put self.entry ≡ lines_text lines
@@ -204,7 +204,7 @@ impl<'t> Comparison<'t> {
         }
     }
 
-    /// The verdict where these are the lines of a trace, all of which were put, or else a front of their text.
+    /// Returns the verdict on the written lines of a trace. `whole` says whether all lines were written or only a prefix of their text.
     pub(crate) fn verdict(self, whole: bool) -> Result<Verdict, NoMemory>
         ensures { (lines : List Fields) → AllByRecursion IsTraceLine lines → Begins whole (text_put self.entry) (lines_text lines)
             → IfOk result (λ verdict. verdict ≡ verdict_of lines (records_of self.entry.table)) }

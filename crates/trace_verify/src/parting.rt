@@ -21,11 +21,11 @@ const COMMENT: u8 = b'#';
 pub struct Parted<'i> {
     /// The lines before the line `trace`, with their ends: the text of a system.
     pub front: &'i [u8],
-    /// The bytes behind that line.
+    /// The bytes after that line.
     pub table: &'i [u8],
 }
 
-/// How many bytes stand before the comment.
+/// Returns how many bytes come before the comment.
 fn code_length(line: &[u8]) -> usize
     ensures length { result ≡ prefix_len (λ byte. not (byte == 35)) line.now }
     ensures within { result ≤ length line.now }
@@ -33,7 +33,7 @@ fn code_length(line: &[u8]) -> usize
     line.iter().take_while(|byte| **byte != COMMENT).count()
 }
 
-/// What stands before the comment.
+/// Returns the bytes before the comment.
 fn code(line: &[u8]) -> &[u8]
     ensures { result.now ≡ code_of line.now }
 {
@@ -46,7 +46,7 @@ fn is_blank(byte: u8) -> bool
     byte == b' ' || byte == b'\t'
 }
 
-/// How many blanks come first.
+/// Returns how many blanks come first.
 fn blanks_length(bytes: &[u8]) -> usize
     ensures length { result ≡ prefix_len is_blank bytes.now }
     ensures within { result ≤ length bytes.now }
@@ -54,28 +54,28 @@ fn blanks_length(bytes: &[u8]) -> usize
     bytes.iter().take_while(|byte| is_blank(**byte)).count()
 }
 
-/// Whether there are but blanks.
+/// Returns whether there are only blanks.
 fn all_blank(bytes: &[u8]) -> bool
     ensures { result ≡ list_all is_blank bytes.now }
 {
     bytes.iter().all(|byte| is_blank(*byte))
 }
 
-/// What stands behind the first blanks.
+/// Returns the bytes after the first blanks.
 fn behind_blanks(bytes: &[u8]) -> &[u8]
     ensures { result.now ≡ drop (prefix_len is_blank bytes.now) bytes.now }
 {
     bytes.split_at(blanks_length(bytes)).1
 }
 
-/// What stands behind the word, where it comes first.
+/// Returns the bytes after the word `trace`, where it comes first.
 fn behind_word(bytes: &[u8]) -> Option<&[u8]>
     ensures { MatchOption result ((rest : List ℕ) → bytes.now ≡ codes "trace" ++ rest → ⊥) (λ rest. bytes.now ≡ codes "trace" ++ rest.now) }
 {
     bytes.strip_prefix(TRACE)
 }
 
-/// Whether code is the one word.
+/// Returns whether code is this one word.
 fn is_word(code: &[u8]) -> bool
     ensures { Decides result (Spells trace_tokens code.now) }
 {
@@ -85,17 +85,17 @@ fn is_word(code: &[u8]) -> bool
     }
 }
 
-/// Whether a line without its line feed is `trace`.
+/// Returns whether a line without its line feed is `trace`.
 fn is_parting_line(line: &[u8]) -> bool
     ensures { Decides result (IsPartingLine line.now) }
 {
     is_word(code(without_return(line)))
 }
 
-/// The parts of an input: what stands before its first line `trace`, and behind it. Only the lines up to that one are looked at, and
-/// no memory is taken.
+/// Returns the parts of an input: the bytes before its first line `trace`, and those after it. It reads only the lines up to that
+/// one, and takes no memory.
 ///
-/// `None` exactly where the input has no such line.
+/// Returns `None` exactly where the input has no such line.
 pub fn part(input: &[u8]) -> Option<Parted<'_>>
     ensures { MatchOption result (LacksTrace input.now) (λ parts. IsParted input.now parts.front.now parts.table.now) }
 {

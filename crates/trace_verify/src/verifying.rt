@@ -10,17 +10,17 @@ use std::alloc::Global;
 use std::sync::Arc;
 use trace_core::Plan;
 
-/// Whether the records of a table are those of the trace of a plan, as `csv` reads them, or which is the first that is another one.
+/// Returns whether the records of a table, as `csv` reads them, are those of the trace of a plan, or the first that differs.
 ///
 /// The plan is run in the calling thread, row by row, up to the first difference. One row and one record are kept.
 ///
-/// The one error is want of memory.
-// It stands by itself, so that the room for a reader of records is not on the stack of a caller that reads a text before.
+/// Fails only for lack of memory.
+// It is not inlined, so that the stack of a caller that first reads a text has no space for a reader of records.
 #[inline(never)]
 pub fn verify(alloc: Global, plan: Arc<Plan>, table: &[u8]) -> Result<Verdict, NoMemory>
     ensures { IfOk result (IsVerdictOn plan.value.system table.now) }
 {
-    // What a judged system and its order keep is known by the clauses of these calls alone.
+    // Called for their clauses, which state the invariants of a judged system and its order.
     let _ = plan.checked().system();
     let _ = plan.checked();
     let _ = plan.order();

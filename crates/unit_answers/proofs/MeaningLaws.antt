@@ -1,4 +1,4 @@
--- What a unit's step gives is the meaning of the key that it was given.
+-- The result of a unit's step is the meaning of the key from which the step was made.
 use Rattle.std.proofs.Common.{◌≡◌, ◌∙◌, ◌<◌, ◌≤◌, ℕ, ◌+◌, ◌^◌, ℤ, pos, List, ◌++◌, length, take, drop, get_or, set, Some, sym, ap, subst, arith}
 use Rattle.std.specs.Prelude.{IfOk}
 use Rattle.code_units.specs.Calls.{HasWordsFor, meaning_of}
@@ -17,7 +17,7 @@ use Rattle.unit_vm.specs.Valid.{HasFacts}
 use Rattle.unit_vm.specs.declared.program.CodeFacts.{CodeFacts}
 use Rattle.unit_vm.specs.declared.program.Program.{Program}
 
--- One input more has its word.
+-- One more input has its word.
 pub given_more : (old words now : List ℤ) (k : ℕ) → length words ≤ length old → k < length words → now ≡ take k words ++ drop k old
     → set now k (get_or words k (pos 0)) ≡ take (k + 1) words ++ drop (k + 1) old
 given_more old words now k room within is =
@@ -32,7 +32,7 @@ module _ (old given : Running) (want : Want) (facts : CodeFacts) (code : old.ima
     (words : HasWordsFor want.image.now.value.program want.state.now want.inputs.now) (in_time : want.time + want.step ≤ 10 ^ 15)
     (valid : HasFacts want.image.now.value.program facts) (is : given ≡ record old { state = want.state.now; inputs = want.inputs.now }) (answer : Answer)
     (made : IsStepOf given want.time want.step answer) where
-  -- The code's words write the code's program.
+  -- The code's words encode the code's program.
   written : program_in (program_words want.image.now.value.program) ≡ want.image.now.value.program
   written = reads_back want.image.now.value.program facts valid
 

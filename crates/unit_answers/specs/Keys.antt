@@ -17,7 +17,7 @@ pub record StepKey : Type 0 where
   pub time : ℕ
   pub step : ℕ
 
--- The key of a step that is wanted.
+-- The key of a required step.
 abbrev pub key_of : Want → StepKey
 key_of want = record {
   code = program_words want.image.now.value.program;
@@ -27,7 +27,7 @@ key_of want = record {
   step = want.step;
 }
 
--- The key that is held with an image in place of its code.
+-- A stored key, which has an image in the place of its code.
 abbrev pub key_held : Key → StepKey
 key_held key = record {
   code = program_words key.image.value.program;
@@ -37,12 +37,12 @@ key_held key = record {
   step = key.step;
 }
 
--- The key has one word for each state and for each input of its code, and the step ends within what times may be.
+-- The key has one word for each state and for each input of its code, and the step ends within the range of times.
 pub record FitsCode (key : StepKey) : Type 0 where
   pub words : HasWordsFor (program_in key.code) key.state key.inputs
   pub in_time : key.time + key.step ≤ 10 ^ 15
 
--- What the step of a key gives: by a run of the code from its entry for steps, the state after it and the accepted length, or the
--- fault. Valid code gives one of both (`valid_programs_answer` of unit_exec).
+-- The meaning of a key: the result of its step. A run of the code from its entry for steps gives the state after the step and the
+-- accepted length, or the fault. Valid code always gives one of the two (`valid_programs_answer` of unit_exec).
 abbrev pub meaning : StepKey → Option (Result Moved Fault)
 meaning key = meaning_of (program_in key.code) key.state key.inputs key.time key.step

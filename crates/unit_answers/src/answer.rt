@@ -1,10 +1,10 @@
 use fixed_words::{Fault, List};
 
-/// What a step gave.
+/// The result of a step.
 #[derive(Debug, Drop)]
 pub enum Answer {
-    /// The state moved, and the step accepted so many local ticks.
+    /// The step led to this state, and accepted so many local ticks.
     Moved { state: List<i64>, accepted: u64 },
-    /// The step met a fault, and moved nothing.
+    /// The step met a fault, and the state stayed.
     Failed { fault: Fault },
 }

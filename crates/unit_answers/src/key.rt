@@ -10,18 +10,18 @@ use word_lanes::first_mismatch;
 /// All that a step of a component depends on.
 #[derive(Drop)]
 pub struct Key {
-    /// The image whose code it is. Which image it came from is no part of the key: code is compared by its words.
+    /// The image that has the code. Which image it is does not matter: code is compared by its words.
     pub image: Arc<Image>,
     pub state: List<i64>,
     pub inputs: List<i64>,
-    /// In local ticks.
+    /// The local time at the beginning of the step, in local ticks.
     pub time: u64,
-    /// In local ticks.
+    /// The length of the step, in local ticks.
     pub step: u64,
 }
 
 impl Key {
-    /// The key of a step that is wanted. It takes the room of its words.
+    /// Returns the key of a required step. It takes memory for the words of the key.
     pub(crate) fn of(alloc: Global, want: Want<'_>) -> Result<Key, NoMemory>
         ensures { IfOk result (λ key. key_held key ≡ key_of want.entry) }
     {
@@ -34,7 +34,7 @@ impl Key {
         })
     }
 
-    /// Whether it is that of a step that is wanted: what is cheap to compare and differs first is compared first.
+    /// Returns whether this is the key of a required step. It first compares what is cheap to compare and likely to differ.
     pub(crate) fn is_of(&self, want: Want<'_>) -> bool
         ensures { IsTrue result ↔ (key_held self.now ≡ key_of want.entry) }
     {
@@ -46,7 +46,7 @@ impl Key {
     }
 }
 
-/// Whether the words are the same.
+/// Returns whether the words are equal.
 fn same_words(one: &[i64], other: &[i64]) -> bool
     ensures { IsTrue result ↔ (one.now ≡ other.now) }
 {

@@ -1,12 +1,12 @@
-//! Answers that prove themselves: what the step of a key gives, whoever made it.
+//! Answers with their proof: the result of the step of a key, whoever made it.
 //!
-//! A [`Key`] is all that a step of a component depends on: its code, its state, the words of its inputs, the local time and the
-//! local step. [`prove`] makes the step that a [`Want`] names and answers a [`Proven`], whose type keeps that its [`Answer`] is the
-//! meaning of its own key. So an answer that another thread made, ahead and from guessed inputs, may be used wherever its key is the
-//! one that is wanted, which [`same_key`] tells.
+//! A [`Key`] is all that a step of a component depends on: its code, its state, the words of its inputs, the local time and
+//! the local step. [`prove`] makes the step that a [`Want`] describes and returns a [`Proven`]. The invariant of this type is
+//! that its [`Answer`] is the meaning of its own key. So a run may use an answer that another thread made ahead from guessed
+//! inputs, wherever its key is that of the required step. [`same_key`] decides this.
 //!
-//! The layer above uses all that is named here. Definitions: `specs/Keys.antt` (keys and what they mean), `specs/Answers.antt` (when
-//! an answer is proven). `specs/Proving.antt`, which need not be believed, says how one is made.
+//! The layer above uses all that is named here. Definitions: `specs/Keys.antt` (keys and what they mean),
+//! `specs/Answers.antt` (when an answer is proven). `specs/Proving.antt` describes how one is made; no promise depends on it.
 #![tactic(auto)]
 
 mod answer;

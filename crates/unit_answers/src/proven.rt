@@ -7,7 +7,7 @@ use crate::key::Key;
 use std::marker::Model;
 use unit_exec::Want;
 
-/// An answer with its key, of which it is the meaning, and the row of the run for which it was made.
+/// A key, the answer that is its meaning, and the row of the run for which the answer was made.
 #[derive(Drop)]
 pub struct Proven {
     pub(crate) row: u64,
@@ -29,21 +29,21 @@ impl Model for Proven {
 }
 
 impl Proven {
-    /// The row for which it was made. Another row changes nothing of the answer.
+    /// Returns the row for which the answer was made. The answer doesn't depend on it.
     pub fn row(&self) -> u64
         ensures { result ≡ self.now.row }
     {
         self.row
     }
 
-    /// What the step depended on.
+    /// Returns what the step depended on.
     pub fn key(&self) -> &Key
         ensures { key_held result.now ≡ self.now.key }
     {
         &self.key
     }
 
-    /// What the step gave: the meaning of the key.
+    /// Returns the result of the step: the meaning of the key.
     pub fn answer(&self) -> &Answer
         ensures value { step_told result.now ≡ self.now.answer }
         ensures proven { IsProven self.now }
@@ -52,8 +52,8 @@ impl Proven {
     }
 }
 
-/// Whether an answer is that of the step that is wanted: true exactly where code, state, inputs, time and step are equal. The
-/// row is not compared. No memory is taken.
+/// Returns whether an answer is that of the required step: true exactly where code, state, inputs, time and step are equal. It
+/// doesn't compare the row and takes no memory.
 pub fn same_key(one: &Proven, want: Want<'_>) -> bool
     ensures { IsTrue result ↔ (one.now.key ≡ key_of want.entry) }
 {

@@ -11,13 +11,13 @@ use fixed_words::{List, NoMemory};
 use std::alloc::Global;
 use unit_exec::{Unit, Want};
 
-/// Gives a unit a state and the words of its inputs, of which there are so many.
+/// Sets the state of a unit and the words of its inputs. `count` is the number of inputs.
 fn give(unit: &mut Unit, state: &[i64], inputs: &[i64], count: u32)
     requires words { HasWordsFor unit.old.image.program state.now inputs.now }
     requires count { count ≡ length inputs.now }
     ensures { unit.new ≡ record unit.old { state = state.now; inputs = inputs.now } }
 {
-    // How many words a unit has is known by the clauses of these calls alone.
+    // Called for their clauses, which state how many words a unit has.
     let _ = unit.state();
     let _ = unit.inputs();
     unit.restore(state);
@@ -26,7 +26,7 @@ fn give(unit: &mut Unit, state: &[i64], inputs: &[i64], count: u32)
     }
 }
 
-/// Steps a unit from where it stands, and tells what the step gave.
+/// Steps a unit from its present state, and returns the result of the step.
 fn step(alloc: Global, unit: &mut Unit, time: u64, step: u64) -> Result<Answer, NoMemory>
     requires { time + step ≤ 10 ^ 15 }
     ensures answer { IfOk result (IsStepOf unit.old time step) }
@@ -41,9 +41,9 @@ fn step(alloc: Global, unit: &mut Unit, time: u64, step: u64) -> Result<Answer, 
     }
 }
 
-/// The proven answer to a step that is wanted, a fault of the component included, made by a unit of its code. The words may be out of
-/// the ranges of their types: the meaning of a key is that of any words. The state and the inputs that the unit is left with are
-/// open. It takes the room of the key's words and of the answer's.
+/// Returns the proven answer to a required step, which may be a fault of the component. `unit` has to be one of its code.
+/// The words may be out of the ranges of their types: a key has a meaning for any words. Afterwards the state and the inputs of
+/// the unit are unspecified. It takes memory for the words of the key and of the answer.
 pub fn prove(alloc: Global, unit: &mut Unit, want: Want<'_>) -> Result<Proven, NoMemory>
     requires code { unit.old.image.program ≡ want.image.now.value.program }
     requires words { HasWordsFor want.image.now.value.program want.state.now want.inputs.now }
@@ -52,7 +52,7 @@ pub fn prove(alloc: Global, unit: &mut Unit, want: Want<'_>) -> Result<Proven, N
     ensures key { IfOk result (λ one. one.key ≡ key_of want.entry) }
     ensures image { unit.new.image ≡ unit.old.image }
 {
-    // That the code is valid is known by the clauses of these calls alone.
+    // Called for their clauses, which state that the code is valid.
     let _ = want.image.code().facts();
     let key = Key::of(alloc, want)?;
     give(unit, want.state, want.inputs, want.image.inputs());

@@ -1,4 +1,4 @@
--- The units of what is run of a system in range that is well-formed may be compiled.
+-- The units of the plain form of a system that is in range and well-formed may be compiled.
 use Rattle.std.proofs.Common.{◌≡◌, ◌⊎◌, ℕ, zero, suc, ℤ, List, [], ◌∷◌, map, length, Some, slice_get, inl, inr, refl, sym, ap, ◌∙◌, subst}
 use Rattle.std.specs.Prelude.{◌==◌, cond}
 use Rattle.std.specs.List.{AllByRecursion, flat_map}
@@ -46,7 +46,7 @@ module _ (system : System) (ranged : IsRanged system) (well : IsWellFormed syste
   declared : (number : ℕ) (unit : Unit) → slice_get system.units number ≡ Some unit → Declares (Passes system) unit
   declared number unit is = declares (Passes system) unit (unit_passes system ranged well number unit is)
 
-  -- The same of the unit of a number, in what is run of it.
+  -- The same for the unit with a number, in the plain form.
   compiles : (number : ℕ) (unit : Unit) → slice_get system.units number ≡ Some unit → (params : List ℤ) → length params ≡ length unit.params
       → IsCompilable (plain_unit unit) params
   compiles number unit is params each = compilable system unit (declared number unit is) params each

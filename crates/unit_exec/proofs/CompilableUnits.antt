@@ -1,4 +1,4 @@
--- What is run of a unit of a system in range that is well-formed may be compiled.
+-- The plain form of a unit of a system that is in range and well-formed may be compiled.
 use Rattle.std.proofs.Common.{◌≡◌, ◌⊎◌, ℕ, ◌≤◌, Bool, true, false, ℤ, List, [], ◌∷◌, ◌++◌, map, length, Option, Some, None, inl, inr, refl, sym, ap, ◌∙◌, subst}
 use Rattle.std.specs.Prelude.{◌||◌, not, nat_lt, is_none}
 use Rattle.std.specs.List.{AllByRecursion, flat_map}
@@ -72,7 +72,7 @@ module _ (system : System) (unit : Unit) (declared : Declares (Passes system) un
   abbrev Event : List ℕ → Type 0
   Event name = is_among (event_input_names unit) name ≡ true
 
-  -- An expression uses what it may.
+  -- An expression uses only what it may use.
   abbrev Keeps : Expr → Type 0
   Keeps value =
       kind_laws.Uses scope (kinds_in unit) Use Event (name_kind system unit declared params each_word)
@@ -109,7 +109,7 @@ module _ (system : System) (unit : Unit) (declared : Declares (Passes system) un
   abbrev PassesAt : LineForm → Type 0
   PassesAt line = AtLine (Passes system) unit line
 
-  -- What is told of an output that is run.
+  -- What is known of an output of the plain form.
   pub record Runs (output : Output) : Type 0 where
     pub callable : IsCallable scope output.value
     pub typed : AreDecimals output.ty
@@ -261,7 +261,7 @@ module _ (system : System) (unit : Unit) (declared : Declares (Passes system) un
   abbrev Tail : List LineForm → List Headed → Type 0
   Tail earlier headed = Hold (Passes system) (UnitScope unit) earlier headed
 
-  -- What comes behind `max`.
+  -- What comes after `max`.
   pub record Behind (rest : List Headed) : Type 0 where
     pub earlier : List LineForm
     pub hold : Tail earlier rest

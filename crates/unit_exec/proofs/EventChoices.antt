@@ -1,5 +1,5 @@
--- What an event output becomes in what is run: whether an event occurs, and its word. Both use what the output uses, are in range
--- as it is, and have kinds where the word has one.
+-- The outputs of the plain form for an event output: whether an event occurs, and its word. Both use what the event output uses, are
+-- in range as it is, and have kinds where its word has one.
 use Rattle.std.proofs.Common.{◌≡◌, ℕ, zero, suc, Bool, true, false, ℤ, pos, List, [], ◌++◌, Some, inl, inr, refl, sym, ap, ◌∙◌, subst}
 use Rattle.std.specs.Prelude.{◌&&◌}
 use Rattle.std.specs.Option.{option_and_then}
@@ -30,7 +30,7 @@ use Rattle.unit_exec.proofs.KindsOfRuns.{step_of}
 use Rattle.list_laws.proofs.Members.{Has, has_front, has_behind, has_either}
 use Rattle.list_laws.proofs.Truths.{le_asked}
 
--- An expression that is one choice by itself.
+-- An expression that is not an `if` is its own choice.
 abbrev IsOther : Expr → Type 0
 IsOther value = (gap : Expr) (change : Expr → Expr) → with_choices gap change value ≡ change value
 
@@ -64,7 +64,7 @@ module _ (C : Expr → Type 0) (other : (value : Expr) → IsOther value → C v
   by_choices : (value : Expr) → C value
   by_choices = ind-Expr C (λ x y is. subst (λ z. C (roll-Expr z)) is (node y))
 
--- ---- Lists that are told of an expression
+-- ---- Lists that are collected from an expression
 
 -- A fold into lists which joins those of the three parts of an `if`.
 module _ (step : Expr-F (List (List ℕ)) → List (List ℕ)) (joins : (c a b : List (List ℕ)) → step (Expr-F.Choose c a b) ≡ (c ++ a) ++ b) where
@@ -94,7 +94,7 @@ module _ (step : Expr-F (List (List ℕ)) → List (List ℕ)) (joins : (c a b :
           ])
         ]))
 
--- The zero of a type names nothing.
+-- The zero of a type uses no name.
 no_names : (step : Expr-F (List (List ℕ)) → List (List ℕ)) → ((number : ℤ) (decimals : ℕ) → step (Expr-F.Number number decimals) ≡ [])
     → ((b : Bool) → step (Expr-F.Truth b) ≡ []) → ((op : UnOp) (xs : List (List ℕ)) → step (Expr-F.Unary op xs) ≡ xs) → (ty : Ty)
     → fold-Expr (List (List ℕ)) step (zero_of ty) ≡ []

@@ -1,4 +1,4 @@
--- A run from an output or the greatest step that ends gives a result.
+-- A run from an output or the limit that ends has a result.
 use Rattle.std.proofs.Common.{◌≡◌, ℕ, zero, suc, Bool, true, false, ℤ, List, [], ◌∷◌, map, length, Option, Some, None, slice_get, Result, Ok, Err, refl, sym}
 use Rattle.std.proofs.Common.{ap, ◌∙◌, subst}
 use Rattle.std.proofs.lemmas.Option.{get_or_from_slice_get, slice_get_within}
@@ -32,7 +32,7 @@ abbrev pub GivesResult : Course → Type 0
 GivesResult (Ends work None) = ⊥
 GivesResult _ = ⊤
 
--- An instruction that ends a run gives a result.
+-- An instruction that ends a run leaves a result.
 abbrev EndsWell : Instruction → Type 0
 EndsWell instruction = flow_of instruction ≡ flow.End → (work : Work) → GivesResult (ends instruction work)
 
@@ -150,7 +150,7 @@ module _ (program : Program) (facts : CodeFacts) (has : HasFacts program facts) 
       let here = limit_at program.sizes program.limit (record { role = role.Step; code = program.step }) parts.1 parts.3 code is in
       after_well code (λ place instruction at. limit_ends instruction (each_fits role.Limit code here.valid.endings place instruction at)) (cost_of code) state)
 
--- ---- What is read off a frame
+-- ---- The results in a frame
 
 abbrev pub Answer : Type 0
 Answer = Result (Unit {0}) Fault
@@ -205,7 +205,7 @@ moved_is states Stuck before (Err told) behind is = absurd is
 
 -- ---- Calls
 
--- What a call gives, by what its run leaves in the frame.
+-- The result of a call, from what its run leaves in the frame.
 module _ (image : Compiled) (facts : CodeFacts) (has : HasFacts image.program facts) (code : Program) (same : code ≡ image.program)
     (state fed words put : List ℤ) (one : words ≡ state) (other : put ≡ fed) (before behind : Held) (done : Unit {0}) where
   pub got : (number : ℕ) → Leaves (run_of code (entry.Output number) (slots_with code.sizes words put 0 0)) before (Ok done) behind → (word : ℤ)

@@ -1,4 +1,4 @@
--- An expression of a unit that has a kind has code of this kind in what is run of the unit.
+-- An expression of a unit that has a kind has code of this kind in the plain form of the unit.
 use Rattle.std.proofs.Common.{◌≡◌, ℕ, Bool, true, false, List, [], ◌++◌, Option, Some, None, inl, refl, sym, ap, ◌∙◌, subst, eq-eqb}
 use Rattle.std.specs.Prelude.{◌&&◌}
 use Rattle.std.specs.Option.{option_and_then}
@@ -32,7 +32,7 @@ use Rattle.language_laws.proofs.PlainLemmas.{plain-Number, plain-Truth, plain-Va
 use Rattle.language_laws.proofs.PlainLemmas.{plain-Present}
 use Rattle.list_laws.proofs.Members.{Has, has_front, has_behind}
 
--- ---- Kinds that are there
+-- ---- Kinds that exist
 
 pub record Step {A B : Type 0} (f : A → Option B) (given : Option A) (told : B) : Type 0 where
   pub one : A
@@ -84,7 +84,7 @@ binary_told by.Max x y k is = (where_told _ x k is).1
 
 -- ---- Code of a kind
 
--- Code whose choices agree and that has the kind.
+-- Code whose choices have one kind, which is this kind.
 pub record IsOf (coded : Coded) (kind : Kind) : Type 0 where
   pub agrees : coded.agrees ≡ true
   pub kind_is : coded.kind ≡ kind
@@ -99,7 +99,7 @@ module _ (scope : Scope) (names : KindsOfNames) (Usable Event : List ℕ → Typ
       told None = refl
       told (Some found) = refl
 
-  -- An expression uses names that are usable, and asks for events.
+  -- An expression uses only usable names, and asks for events only of event inputs.
   pub record Uses (value : Expr) : Type 0 where
     pub names_used : (name : List ℕ) → Has (names_in value) name → Usable name
     pub events_asked : (name : List ℕ) → Has (events_asked_in value) name → Event name
@@ -151,7 +151,7 @@ module _ (scope : Scope) (names : KindsOfNames) (Usable Event : List ℕ → Typ
         kind_is = ap (binary_kind_of op) one.kind_is ∙ binary_told op told.one other.one kind other.gives;
       })
 
-  -- Three parts: what each uses, of all that they use.
+  -- Three parts: each uses only what all together may use.
   three : (a b c : Expr) (all_names all_events : List (List ℕ)) → all_names ≡ (names_in a ++ names_in b) ++ names_in c
       → all_events ≡ (events_asked_in a ++ events_asked_in b) ++ events_asked_in c → ((name : List ℕ) → Has all_names name → Usable name)
       → ((name : List ℕ) → Has all_events name → Event name) → Uses a × Uses b × Uses c

@@ -1,4 +1,4 @@
--- Step lines whose forms are right have right code in what is run.
+-- Step lines whose forms are right have right code in the plain form.
 use Rattle.std.proofs.Common.{◌≡◌, ◌≤◌, true, List, [], ◌∷◌, ◌++◌, map, Some, None, refl, sym, ap, ◌∙◌, subst}
 use Rattle.std.specs.Prelude.{⊤}
 use Rattle.std.specs.List.{AllByRecursion, flat_map}
@@ -21,7 +21,7 @@ use Rattle.list_laws.proofs.Lists.{each_part}
 use Rattle.list_laws.proofs.Truths.{le_asked}
 
 module _ (scope : Scope) where
-  -- What the code of a line asks of its form.
+  -- What the code of a line requires of its form.
   abbrev pub FormRight : LineForm → Type 0
   FormRight (form.Assign target value) =
       (is_right_in scope (plain_expression value) ≡ true) × ((target_coded scope.sizes (named scope.names target)).is_right ≡ true)

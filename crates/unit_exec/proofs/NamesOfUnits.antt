@@ -1,5 +1,5 @@
--- Names in what is run of a unit: each that an expression may use has the kind there that it is declared with, and targets have
--- slots that may be written.
+-- Names in the plain form of a unit: each that an expression may use has its declared kind there, and targets have slots that may be
+-- written.
 use Rattle.std.proofs.Common.{◌≡◌, ◌⊎◌, ℕ, suc, Bool, true, false, ℤ, List, [], ◌∷◌, ◌++◌, map, length, Option, Some, None, inl, inr, refl, sym, ap, ◌∙◌, subst}
 use Rattle.std.proofs.Common.{arith}
 use Rattle.std.specs.Prelude.{◌||◌, cond}
@@ -46,7 +46,7 @@ use Rattle.run_laws.proofs.PortLaws.{among}
 abbrev says : List ℕ → Variable → Bool
 says name one = bytes_eq one.name name
 
--- The first variable of a name, of which all of the name have one type.
+-- The first variable of a name, where all variables of the name have one type.
 pub record Found (xs : List Variable) (name : List ℕ) (ty : Ty) : Type 0 where
   pub one : Variable
   pub is : find (λ (x : Variable). bytes_eq x.name name) xs ≡ Some one
@@ -75,7 +75,7 @@ find_typed (x ∷ xs) name ty v has is all = by_test (bytes_eq x.name name) refl
           typed = rest.typed;
         }
 
--- The kind of the first variable of a name, as code tells it.
+-- The kind of the first variable of a name, as code has it.
 abbrev kind_told : Option Variable → Kind
 kind_told None = kinds.Int
 kind_told (Some one) = kind_of one.ty
@@ -237,7 +237,7 @@ module _ (system : System) (unit : Unit) (declared : Declares (Passes system) un
     ]
   ]
 
-  -- What an expression may name stands among what is declared, and among what is run.
+  -- A name that an expression may use is declared, and is in the plain form too.
   pub record Usable (name : List ℕ) : Type 0 where
     pub one : Declared
     pub has : Has (declarations unit) one
@@ -371,7 +371,7 @@ module _ (system : System) (unit : Unit) (declared : Declares (Passes system) un
       let alike : comes.one ≡ one = distinct_same (declarations unit) comes.one one distinct comes.has has (ap (λ (v : Variable). v.name) comes.is ∙ same) in
       ap (λ (v : Variable). v.ty) (sym comes.is) ∙ ap (λ (d : Declared). (variable_of d).ty) alike
 
-  -- A name that may be used has the kind that it is declared with.
+  -- A name that may be used has its declared kind.
   pub name_kind : (name : List ℕ) → Usable name → (kind : Kind) → kinds_in unit name ≡ Some kind → (name_code (named run_names name)).kind ≡ kind
   name_kind name usable kind is =
       let ty : Ty = (variable_of usable.one).ty in
@@ -389,7 +389,7 @@ module _ (system : System) (unit : Unit) (declared : Declares (Passes system) un
       run_type usable w (inl comes) same = one_type usable.one usable.has w comes same
       run_type usable w (inr tells) same = absurd (plain_name usable.one usable.has tells.event.name (sym same ∙ sym (ap (λ (v : Variable). v.name) tells.is)))
 
-  -- The port that tells of an event is a Bool.
+  -- The port that says whether an event occurs is a Bool.
   pub presence_kind : (name : List ℕ) → is_among (event_input_names unit) name ≡ true → (name_code (named run_names (presence_name name))).kind ≡ kinds.Bool
   presence_kind name is =
       let event = map_has (λ (e : EventIn). e.name) unit.events_in name (among (event_input_names unit) name is) in

@@ -1,4 +1,4 @@
--- An output that shows a word of the state as it is.
+-- An output that only returns the word of a state.
 use Rattle.std.proofs.Common.{◌≡◌, ℕ, zero, suc, arith, ◌+◌, ◌<◌, Bool, true, false, ℤ, pos, List, [], ◌∷◌, ◌++◌, length, length-append, subst, take, replicate}
 use Rattle.std.proofs.Common.{Some, slice_get, Ok, Err, refl, sym, ap, ◌∙◌}
 use Rattle.std.specs.Prelude.{if◌then◌else◌}
@@ -24,7 +24,7 @@ tested : (fitting : Bool) (work : Work) (word : ℤ) (next : State → Course)
 tested true work word next = refl
 tested false work word next = refl
 
--- A word in the front of a list.
+-- A word in a prefix of a list.
 found_taken : (xs : List ℤ) (count place : ℕ) (word : ℤ) → place < count → slice_get xs place ≡ Some word → slice_get (take count xs) place ≡ Some word
 found_taken [] count place word within is = absurd (cc)
 found_taken (x ∷ xs) zero place word within is = absurd (omega (arith, within))
@@ -42,7 +42,7 @@ shows sizes slot ty state rest word each is =
     ap (λ found. word_given (then_goes (goes_on at (loads at.work found)) (after code 1))) there
     ∙ tested (is_word_of ty word) _ word _
 
--- An output of which this is noted is there, and gives the state's word.
+-- An output for which this is noted exists, and returns the state's word.
 module _ (program : Program) (state inputs : List ℤ) (output : ℕ) (shown : ℕ × Ty) (there : output < length program.outputs)
     (each : length state ≡ program.sizes.states) (shows_state : Shows program output shown) where
   found : (part : List Instruction) × (slice_get program.outputs output ≡ Some part)
@@ -63,7 +63,7 @@ module _ (program : Program) (state inputs : List ℤ) (output : ℕ) (shown : �
 pub has_output : (program : Program) (output : ℕ) → output < length program.outputs → IsSome (slice_get program.outputs output)
 has_output program output there = let one = at_place program.outputs output there in subst IsSome (sym one.1) refl
 
--- The first outputs of which this is noted do.
+-- This holds of the first outputs for which it is noted.
 pub record ShowSoFar (program : Program) (count : ℕ) (all : List (Option (ℕ × Ty))) : Type 0 where
   pub as_many : length all ≡ count
   pub each : ShowStates program all

@@ -1,4 +1,4 @@
--- Words that are put over others.
+-- Words that overwrite others.
 use Rattle.std.proofs.Common.{◌≡◌, ℕ, suc, ◌+◌, ◌-◌, ◌<◌, ◌≤◌, ℤ, pos, List, [], ◌∷◌, ◌++◌, length, take, drop, replicate, get_or, set, append_assoc, refl, sym}
 use Rattle.std.proofs.Common.{ap, ◌∙◌, subst, add-one, arith}
 use Rattle.std.proofs.Math.Seq.{drop-cons, take-suc, set-append_seam, take-append_seam, drop-append_seam}
@@ -61,7 +61,7 @@ put_single old first [] one room = absurd (omega (arith, one))
 put_single old first (word ∷ []) one room = put_one old first word room
 put_single old first (word ∷ (other ∷ words)) one room = absurd (let g : suc (suc (length words)) ≡ 1 = one in omega (arith, g))
 
--- Words that stand between others are overwritten by as many.
+-- Words between others are overwritten by as many.
 put_between : (front old behind words : List ℤ) → length old ≡ length words
     → overwritten (front ++ (old ++ behind)) (length front) words ≡ front ++ (words ++ behind)
 put_between front old behind words same =
@@ -90,7 +90,7 @@ cut xs count within =
           ∙ ap (λ n. n + length (drop count xs)) long;
     }
 
--- The words of a call over those of a frame: locals are left between them.
+-- The words of a call overwrite those of a frame. The locals between them stay.
 pub record Filled (old state inputs : List ℤ) (locals : ℕ) (time step : ℤ) : Type 0 where
   pub kept : List ℤ
   pub long : length kept ≡ locals
@@ -127,7 +127,7 @@ filled old state inputs locals time step size =
           ∙ append_assoc (state ++ inputs) three.front (last ++ []);
     }
 
--- A run looks at slots only through its opening.
+-- A run depends on slots only through its opening.
 same_part : (sizes : Sizes) (part : Option (List Instruction)) (one other : List ℤ) → opening sizes one ≡ opening sizes other
     → run_part sizes part one ≡ run_part sizes part other
 same_part sizes None one other same = refl
@@ -177,7 +177,7 @@ pub lent : (old new : List ℤ) → length new ≡ length old → refill (length
 lent old new same =
     ap (λ n. take n (new ++ drop (length new) old)) (sym same) ∙ take-append_seam new (drop (length new) old)
 
--- A run leaves by its course, and by the facts and the result before.
+-- What a run leaves depends on its course, and on the facts and the result before.
 pub leaves_alike : (course other : Course) (before lent_frame : Held) (result : Result (Unit {0}) Fault) (behind : Held) → course ≡ other
     → lent_frame.facts ≡ before.facts → lent_frame.result ≡ before.result → Leaves course lent_frame result behind → Leaves other before result behind
 leaves_alike course other before lent_frame result behind same facts told leaves =

@@ -38,7 +38,7 @@ use Rattle.list_laws.proofs.Members.{Has, has_front, has_behind, has_either, has
 use Rattle.list_laws.proofs.Truths.{true_is_false, le_asked, lt_asked}
 use Rattle.run_laws.proofs.PortLaws.{has_among}
 
--- What is found in a list stands there.
+-- What is found in a list is an element of it.
 pub record IsFoundIn (xs : List Variable) (name : List ℕ) (one : Variable) : Type 0 where
   pub has : Has xs one
   pub named_so : one.name ≡ name
@@ -78,7 +78,7 @@ slots_skip slot (x ∷ xs) name none = by_test (bytes_eq x.name name) refl (slot
         ap (λ (b : Bool). cond b (Some (record { name = x.name; ty = x.ty; place = Slot slot })) (named (slots_from (suc slot) xs) name)) other
         ∙ later
 
--- A slot from one on, of so many.
+-- One of so many slots, from one on.
 pub record InSlot (slot count : ℕ) (given : Option Named) : Type 0 where
   pub found : Named
   pub is : given ≡ Some found
@@ -244,7 +244,7 @@ module _ (system : System) (unit : Unit) (declared : Declares (Passes system) un
     ]
   ]
 
-  -- No input that is run has a target's name.
+  -- No input of the plain form has a target's name.
   input_named : (name : List ℕ) → Reserved name → (one : Declared) → Has (declarations unit) one → name_of one ≡ name → (input : Input) → Has run.inputs input
       → input.name ≡ name → ⊥
   input_named name free one has is input there same = elim (has_either unit.inputs (flat_map plain_inputs unit.events_in) input there) [
@@ -278,7 +278,7 @@ module _ (system : System) (unit : Unit) (declared : Declares (Passes system) un
   abbrev sizes : Sizes
   sizes = sizes_of run
 
-  -- Where a target's slot is.
+  -- The slot of a target.
   stored_at : (given : Option Named) (found : Named) (slot : ℕ) → given ≡ Some found → found.place ≡ Slot slot → is_stored sizes slot ≡ true
       → (target_coded sizes given).is_right ≡ true
   stored_at given found slot is place stored =

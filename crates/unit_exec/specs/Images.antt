@@ -21,8 +21,9 @@ pub record Compiled : Type 0 where
 abbrev pub start_inputs_of : Unit → List ℤ
 start_inputs_of unit = map (λ input. start_word input.ty input.start) unit.inputs
 
--- An image is that of a component: its program is the unit's, which computes the component's calls, for all words of states and
--- inputs, has as many states, inputs and locals, and is read back from its words; the start words are the component's.
+-- The image of a component: its program is the unit's, which computes the component's calls, for all words of states and
+-- inputs. It has as many states, inputs and locals as the unit, and is read back from its words. The start words are the
+-- component's.
 pub record IsImageOf (component : Component) (image : Compiled) : Type 0 where
   pub is_program : image.program ≡ program_of component.unit component.params
   pub computes : Computes image.program component
@@ -33,12 +34,12 @@ pub record IsImageOf (component : Component) (image : Compiled) : Type 0 where
   pub starts : image.start ≡ initial component
   pub inputs_start : image.start_inputs ≡ start_inputs_of component.unit
 
--- A start word for each state, and for each input.
+-- There is a start word for each state, and for each input.
 pub record HasStarts (image : Compiled) : Type 0 where
   pub each_state : length image.start ≡ image.program.sizes.states
   pub each_input : length image.start_inputs ≡ image.program.sizes.inputs
 
--- The unit of a number in the plain form of a system, which is what is run of it.
+-- The unit with this number in the plain form of a system.
 abbrev pub unit_of_plain_form : System → ℕ → Option Unit
 unit_of_plain_form system number = slice_get (plain_form system).units number
 
@@ -46,6 +47,6 @@ unit_of_plain_form system number = slice_get (plain_form system).units number
 abbrev pub HasParams : System → ℕ → List ℤ → Type 0
 HasParams system number params = IfSome (unit_of_plain_form system number) (λ unit. length params ≡ length unit.params)
 
--- The image is that of the unit of a number, with words of its parameters.
+-- The image is that of the unit with this number, with words of its parameters.
 abbrev pub IsCompiled : System → ℕ → List ℤ → Compiled → Type 0
 IsCompiled system number params image = IfSome (unit_of_plain_form system number) (λ unit. IsImageOf (record { unit = unit; params = params }) image)

@@ -1,4 +1,4 @@
-//! A call as a run: the words of a component are put into the slots of a frame, and the code is run from an entry.
+//! A call as a run: the words of a component are written to the slots of a frame, and the code is run from an entry.
 ghost use Rattle.std.specs.Prelude.{◌≡◌, ◌+◌, ◌≤◌, ◌-◌, ◌<◌, ◌^◌, ◌∷◌, [], length, take, IsSome};
 ghost use Rattle.code_units.specs.Calls.{slots_with, HasWordsFor};
 ghost use Rattle.unit_exec.specs.Running.{overwritten, given_word};
@@ -10,12 +10,12 @@ ghost use Rattle.unit_vm.specs.Valid.{HasFacts};
 use fixed_words::{Fault, Ty, fits};
 use unit_vm::{Code, Entry, Frame, run};
 
-/// Puts words over others, from a place on.
+/// Overwrites words by others, from a place on.
 pub(crate) fn put(slots: &mut [i64], first: usize, words: &[i64])
     requires { first + length words.now ≤ length slots.old }
     ensures { slots.new ≡ overwritten slots.old first words.now }
 {
-    // Many units have one state or one input: no loop is set up for it.
+    // Many units have one state or one input: these need no loop.
     if let [word] = words {
         slots[first] = *word;
         return;
@@ -25,8 +25,7 @@ pub(crate) fn put(slots: &mut [i64], first: usize, words: &[i64])
     }
 }
 
-/// Puts the words of a call into slots: the state, the inputs, the local time and the step. Locals are left to the run, which
-/// begins by making them 0.
+/// Writes the words of a call to slots: the state, the inputs, the local time and the step. The run sets the locals to 0.
 fn fill(slots: &mut [i64], state: &[i64], inputs: &[i64], time: i64, step: i64)
     requires { length state.now + length inputs.now + 2 ≤ length slots.old }
     ensures { slots.new ≡ overwritten (overwritten (overwritten slots.old 0 state.now) (length state.now) inputs.now) (length slots.old - 2) (time ∷ step ∷ []) }
@@ -37,7 +36,7 @@ fn fill(slots: &mut [i64], state: &[i64], inputs: &[i64], time: i64, step: i64)
     put(slots, last, &[time, step]);
 }
 
-/// Runs the code from an entry on the words of a call: the frame has the slots of these, with locals 0.
+/// Runs the code from an entry on the words of a call. The frame's slots then have these words, with the locals at 0.
 pub(crate) fn run_on(
     code: &Code,
     entry: Entry,
@@ -59,7 +58,7 @@ pub(crate) fn run_on(
     run(code, entry, frame)
 }
 
-/// The word where it is one of the type's, as an output gives it.
+/// Returns the word as an output, where it is of the type, and otherwise the fault.
 pub(crate) fn given(ty: Ty, word: i64) -> Result<i64, Fault>
     ensures { result ≡ given_word ty word }
 {
@@ -70,7 +69,7 @@ pub(crate) fn given(ty: Ty, word: i64) -> Result<i64, Fault>
     }
 }
 
-/// Puts the first of some words over others.
+/// Overwrites words by the first of some others.
 pub(crate) fn take_first(into: &mut [i64], words: &[i64])
     requires { length into.old ≤ length words.now }
     ensures { into.new ≡ take (length into.old) words.now }

@@ -17,13 +17,14 @@ use std::marker::Model;
 use unit_tree::{Checked, Input, State, Unit, start_word};
 use unit_vm::{Code, Instruction, Program};
 
-/// A unit with words of its parameters, as code, and the words with which its states and inputs begin.
+/// The code of a unit with words of its parameters, and the words with which its states and inputs begin.
 #[derive(Drop)]
 pub struct Image {
-    /// What `shown` has of the first output, the only one that many units have. It stands beside the code that a step reads.
+    /// The value of `shown` for the first output, which is the only one of many units. It is here because a step reads the code next
+    /// to it.
     first_shown: Option<(u32, Ty)>,
     code: Code,
-    /// Of each output the slot of the state that it shows and its type, if it does nothing else.
+    /// For each output that only returns a state: the slot of this state, and its type.
     shown: Vec<Option<(u32, Ty)>>,
     start: List<i64>,
     start_inputs: List<i64>,
@@ -43,28 +44,28 @@ impl Model for Image {
 }
 
 impl Image {
-    /// The code. No memory is taken.
+    /// Returns the code. Takes no memory.
     pub fn code(&self) -> &Code
         ensures { result.now ≡ self.now.program }
     {
         &self.code
     }
 
-    /// How many states it has.
+    /// Returns the number of its states.
     pub fn states(&self) -> u32
         ensures { result ≡ self.now.program.sizes.states }
     {
         self.code.program().sizes.states
     }
 
-    /// How many inputs it has.
+    /// Returns the number of its inputs.
     pub fn inputs(&self) -> u32
         ensures { result ≡ self.now.program.sizes.inputs }
     {
         self.code.program().sizes.inputs
     }
 
-    /// The words with which the states begin.
+    /// Returns the words with which the states begin.
     pub fn start(&self) -> &[i64]
         ensures value { result.now ≡ self.now.start }
         ensures each { length self.now.start ≡ self.now.program.sizes.states }
@@ -72,7 +73,7 @@ impl Image {
         self.start.as_slice()
     }
 
-    /// The words with which the inputs begin.
+    /// Returns the words with which the inputs begin.
     pub fn start_inputs(&self) -> &[i64]
         ensures value { result.now ≡ self.now.start_inputs }
         ensures each { length self.now.start_inputs ≡ self.now.program.sizes.inputs }
@@ -80,7 +81,7 @@ impl Image {
         self.start_inputs.as_slice()
     }
 
-    /// The slot of the state that an output shows and its type, if it does nothing else.
+    /// Returns the slot of the state that an output shows, and its type, if the output does nothing else.
     pub(crate) fn shown(&self, output: u32) -> Option<(u32, Ty)>
         ensures { IfSome result (Shows self.now.program output) }
     {
@@ -91,7 +92,7 @@ impl Image {
     }
 }
 
-/// The code of a valid program: its words are valid code.
+/// Returns the code of a valid program: its words are valid code.
 fn valid_code(alloc: Global, program: &Program) -> Result<Code, NoMemory>
     requires { IsValid program.now }
     ensures { IfOk result (λ code. code ≡ program.now) }
@@ -101,7 +102,7 @@ fn valid_code(alloc: Global, program: &Program) -> Result<Code, NoMemory>
     Ok(found.unwrap())
 }
 
-/// The words with which states begin.
+/// Returns the words with which states begin.
 fn start_states(alloc: Global, states: &[State]) -> Result<List<i64>, NoMemory>
     requires { AllByRecursion (λ (state : State). AreDecimals state.ty) states.now }
     ensures { IfOk result (λ words. words ≡ map (λ state. start_word state.ty state.start) states.now) }
@@ -113,7 +114,7 @@ fn start_states(alloc: Global, states: &[State]) -> Result<List<i64>, NoMemory>
     Ok(words)
 }
 
-/// The words with which inputs begin.
+/// Returns the words with which inputs begin.
 fn start_inputs(alloc: Global, inputs: &[Input]) -> Result<List<i64>, NoMemory>
     requires { AllByRecursion (λ (input : Input). AreDecimals input.ty) inputs.now }
     ensures { IfOk result (λ words. words ≡ map (λ input. start_word input.ty input.start) inputs.now) }
@@ -125,7 +126,7 @@ fn start_inputs(alloc: Global, inputs: &[Input]) -> Result<List<i64>, NoMemory>
     Ok(words)
 }
 
-/// The slot of the state that an output's part shows and its type, if it does nothing else.
+/// Returns the slot of the state that an output's part shows, and its type, if the part does nothing else.
 fn shown_by(part: &[Instruction], states: u32) -> Option<(u32, Ty)>
     ensures { IfSome result (ShowsBy part.now states) }
 {
@@ -135,7 +136,7 @@ fn shown_by(part: &[Instruction], states: u32) -> Option<(u32, Ty)>
     }
 }
 
-/// What the outputs of a program show.
+/// Returns the shown states of a program's outputs.
 fn shown_states(alloc: Global, program: &Program) -> Result<Vec<Option<(u32, Ty)>>, NoMemory>
     ensures { IfOk result (λ shown. ShowStates program.now shown.items) }
 {
@@ -147,14 +148,14 @@ fn shown_states(alloc: Global, program: &Program) -> Result<Vec<Option<(u32, Ty)
     Ok(shown)
 }
 
-/// What the first output shows.
+/// Returns the shown state of the first output, if there is one.
 fn first_of(shown: &[Option<(u32, Ty)>]) -> Option<(u32, Ty)>
     ensures { (program : Program) → ShowStates program shown.now → IfSome result (Shows program 0) }
 {
     *shown.first()?
 }
 
-/// The image of a unit that may be compiled.
+/// Returns the image of a unit that may be compiled.
 fn image_of(alloc: Global, unit: &Unit, params: &[i64]) -> Result<Image, NoMemory>
     requires { IsCompilable unit.now params.now }
     ensures { IfOk result (λ image. IsImageOf (record { unit = unit.now; params = params.now }) image) }
@@ -171,10 +172,9 @@ fn image_of(alloc: Global, unit: &Unit, params: &[i64]) -> Result<Image, NoMemor
     })
 }
 
-/// The image of a unit with words of its parameters. The unit is told by its number in the plain form of the system, which is
-/// what is run. The code of the image
-/// is the unit's program, which computes the calls of the component and, by `codes_cost_what_trees_do` of `code_units`, costs
-/// at most what they cost by their trees.
+/// Returns the image of a unit with words of its parameters. The unit is given by its number in the plain form of the system,
+/// which is the form that is run. The code of the image is the unit's program, which computes the calls of the component. By
+/// `codes_cost_what_trees_do` of `code_units` it costs at most what they cost by their trees.
 pub fn compile(
     alloc: Global,
     checked: &Checked,

@@ -12,8 +12,8 @@ use unit_vm::{Entry, Frame};
 
 /// A unit that runs: its image, its state, and the words of its inputs.
 ///
-/// [`Unit::get`], [`Unit::max_step`] and [`Unit::do_step`] give what runs of the image's code give for them. The runs are made
-/// in one frame, which is made with the unit. No call but [`Unit::new`] takes memory.
+/// [`Unit::get`], [`Unit::max_step`] and [`Unit::do_step`] return the results of runs of the image's code. The runs are made in
+/// one frame, which is made with the unit. Only [`Unit::new`] takes memory.
 #[derive(Drop)]
 pub struct Unit {
     image: Arc<Image>,
@@ -33,7 +33,7 @@ impl Model for Unit {
 }
 
 impl Unit {
-    /// A unit at its start: with the start words of its states and inputs.
+    /// Returns a unit at its start: with the start words of its states and inputs.
     pub fn new(alloc: Global, image: Arc<Image>) -> Result<Unit, NoMemory>
         ensures { IfOk result (λ unit. unit ≡ opened image.value) }
     {
@@ -48,7 +48,7 @@ impl Unit {
         })
     }
 
-    /// The state. No memory is taken.
+    /// Returns the state. Takes no memory.
     pub fn state(&self) -> &[i64]
         ensures value { result.now ≡ self.now.state }
         ensures each { length self.now.state ≡ self.now.image.program.sizes.states }
@@ -56,7 +56,7 @@ impl Unit {
         self.state.as_slice()
     }
 
-    /// The words of the inputs. No memory is taken.
+    /// Returns the words of the inputs. Takes no memory.
     pub fn inputs(&self) -> &[i64]
         ensures value { result.now ≡ self.now.inputs }
         ensures each { length self.now.inputs ≡ self.now.image.program.sizes.inputs }
@@ -72,7 +72,7 @@ impl Unit {
         self.inputs[input as usize] = word;
     }
 
-    /// The word of an output, or its fault. State and inputs stay.
+    /// Returns the word of an output, or its fault. State and inputs stay.
     pub fn get(&mut self, output: u32) -> Result<i64, Fault>
         requires { output < length self.old.image.program.outputs }
         ensures gives { output_by self.old.image.program self.old.state self.old.inputs output ≡ Some result }
@@ -94,8 +94,8 @@ impl Unit {
         Ok(self.frame.result())
     }
 
-    /// The greatest step that the unit will accept at the local time `t`, in local ticks, or the fault of telling it; none
-    /// where the unit has no `max`. State and inputs stay.
+    /// Returns the limit of the unit at the local time `t`, in local ticks, or the fault of its `max`. `None` where the unit has no
+    /// `max`. State and inputs stay.
     pub fn max_step(&mut self, t: u64) -> Result<Option<u64>, Fault>
         requires { t ≤ 10 ^ 15 }
         ensures gives { greatest_step_by self.old.image.program self.old.state self.old.inputs t ≡ Some result }
@@ -117,8 +117,8 @@ impl Unit {
         Ok(Some(self.frame.result().unsigned_abs()))
     }
 
-    /// Steps at the local time `t` by `h` local ticks. The result is the length that was accepted, in local ticks. After a
-    /// fault the state is as before. The inputs stay.
+    /// Steps from the local time `t` by `h` local ticks. Returns the accepted length, in local ticks. After a fault the state is as
+    /// before. The inputs stay.
     pub fn do_step(&mut self, t: u64, h: u64) -> Result<u64, Fault>
         requires { t + h ≤ 10 ^ 15 }
         ensures steps { Steps self.old t h result self.new }
@@ -139,7 +139,7 @@ impl Unit {
         Ok(self.frame.accepted())
     }
 
-    /// Writes the state into `into`.
+    /// Copies the state to `into`.
     pub fn save(&self, into: &mut [i64])
         requires { length into.old ≡ length self.now.state }
         ensures { into.new ≡ self.now.state }
@@ -147,7 +147,7 @@ impl Unit {
         put(into, 0, self.state.as_slice());
     }
 
-    /// Makes `from` the state.
+    /// Sets the state to `from`.
     pub fn restore(&mut self, from: &[i64])
         requires { length from.now ≡ length self.old.state }
         ensures { self.new ≡ record self.old { state = from.now } }

@@ -1,4 +1,4 @@
--- How long a line with a count is, and how much longer than its text the text of an upgrade is.
+-- The length of a line with a count, and how much longer the text of an upgrade is.
 use Rattle.std.proofs.Common.{◌≡◌, ℕ, ◌+◌, ◌-◌, ◌^◌, ◌<◌, ◌≤◌, Bool, true, false, List, [], ◌∷◌, ◌++◌, append-nil, length, take, drop, replicate}
 use Rattle.std.proofs.Common.{codes, decimal, if◌then◌else◌, Option, Some, None, refl, ap, ◌∙◌, arith, unwrap_or, ◌&&◌}
 use Rattle.std.specs.Fmt.{digits}
@@ -29,7 +29,7 @@ cut_nowhere all =
     ∙ ap (λ rest. all ++ pointed rest) (drop-length all)
     ∙ append-nil all
 
--- A whole number is written by its digits.
+-- A whole number is written as its digits.
 whole_text : (n : ℕ) → n < 2 ^ 64 → fixed_text 0 n ≡ decimal n
 whole_text n fits =
     let none : 0 + 1 - length (decimal n) ≡ 0 = omega (arith, decimal_nonempty n fits) in
@@ -122,7 +122,7 @@ length_is system =
     ∙ ap (λ n. size (form.Header system.version ∷ []) + (size (front_lines system) + (size (zero_lines system.zero) + n)))
     (size_of_two (row_lines system.rows) (sample_lines system))
 
--- The text of an upgrade has the lines that are added besides.
+-- The text of an upgrade also has the added lines.
 pub grown : (system : System) → system.version ≡ 1
     → length (canonical_text (in_version_2 system))
     ≡ length (canonical_text system) + length (lines_text (zeros_added system)) + length (lines_text (rows_added system))

@@ -10,7 +10,7 @@ use Rattle.unit_tree.specs.WellFormed.{IsWellFormed}
 use Rattle.unit_tree.specs.declared.system.Instance.{Instance}
 use Rattle.unit_tree.specs.declared.system.System.{System}
 
--- Rows and instances: the default shares the rows that there may be.
+-- Rows and instances: the default divides the greatest number of rows.
 pub default_shares : (instances : ℕ) → nat_lt 1000000 (default_rows 1 instances * instances) ≡ false
 default_shares instances = by (default_rows 1 instances * instances) shared
   where

@@ -1,4 +1,4 @@
--- The canonical lines of a system, parted: those up to its longest step, its two budgets, and its samples.
+-- The canonical lines of a system in parts: those up to its longest step, its two budgets, and its samples.
 use Rattle.std.proofs.Common.{◌≡◌, ℕ, List, ◌∷◌, ◌++◌, append_assoc, map, flat_map, Option, ap, ◌∙◌}
 use Rattle.std.proofs.lemmas.Grind.{flat_map-append}
 use Rattle.unit_tree.specs.Canonical.{canonical_forms, canonical_parts, optional, unit_parts}

@@ -33,7 +33,7 @@ header_short : nat_le (length (line_text (form.Header 2))) line_limit ≡ true
 unfolding digits
 header_short = refl
 
--- What a count takes is far below the limit of a line.
+-- A line with a count is far shorter than the limit of a line.
 zero_short : (count : ℕ) → count ≤ 10000 → nat_le (length (line_text (form.Zero count))) line_limit ≡ true
 zero_short count low =
     le_asked (length (line_text (form.Zero count))) line_limit

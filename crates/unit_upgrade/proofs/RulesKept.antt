@@ -1,5 +1,5 @@
--- The upgrade of a system keeps the rules that the system keeps. What a rule asks of a line rests on units, instances, connections and
--- `stop`, which are the same, but for the rule of kinds, which asks more of version 1, and for that of rows.
+-- The upgrade of a system keeps the rules that the system keeps. What a rule requires of a line depends on units, instances,
+-- connections and `stop`, which are the same. Only the rule of kinds, which requires more of version 1, and that of rows differ.
 use Rattle.std.proofs.Common.{◌≡◌, ℕ, ◌+◌, ◌*◌, ◌==◌, Bool, true, false, cond, List, [], ◌∷◌, ◌++◌, append-nil, map, flat_map}
 use Rattle.std.proofs.Common.{filter_map, length, Option, Some, None}
 use Rattle.std.proofs.Common.{refl, sym, ap, subst, ◌∙◌, arith, nat_lt, count_by, unwrap_or, ◌&&◌, ◌||◌}
@@ -46,7 +46,7 @@ module _ (system : System) where
   abbrev rows : ℕ
   rows = unwrap_or system.rows (default_rows 1 (length system.instances))
 
-  -- ---- What rules ask is the same
+  -- ---- What rules require is the same
 
   forms_same : (scope : Scope) (line : LineForm) → plain_forms changed scope line ≡ plain_forms system scope line
   forms_same TopScope (form.Connect wire) = refl
@@ -104,7 +104,7 @@ module _ (system : System) where
       ap (λ (becomes : LineForm → List LineForm). list_any (is_one_too_many scope (flat_map becomes (earlier ++ (line ∷ [])))) (becomes line))
       (λ i some. forms_same scope some i)
 
-  -- The rule of kinds asks less of version 2.
+  -- The rule of kinds requires less of version 2.
   abbrev kind_breaks : System → Scope → LineForm → Bool
   kind_breaks judged scope line =
       mistakes_kind scope line
@@ -117,7 +117,7 @@ module _ (system : System) where
       let literal = (or_parts speaks (on_literal is_misformed (literal_on system scope line)) both.1).1 in
       ap (λ told. told || on_literal is_misformed (literal_on changed scope line)) both.0 ∙ ap (on_literal is_misformed) (literals_same scope line) ∙ literal
 
-  -- ---- What stands before samples
+  -- ---- The lines before samples
 
   abbrev becomes : LineForm → List LineForm
   becomes = plain_forms changed TopScope
@@ -154,7 +154,7 @@ module _ (system : System) where
         ∙ sym (tally_of_two port other (line ∷ []));
   }
 
-  -- A line that is no sample makes no difference.
+  -- A line that is not a sample makes no difference.
   no_sample : (one : List LineForm) (line : LineForm) → filter_map port_sampled (line ∷ []) ≡ [] → ((port : PortName) → tally port (line ∷ []) ≡ 0)
       → SameSamples (one ++ (line ∷ [])) one
   no_sample one line none not_counted = record {
@@ -169,10 +169,10 @@ module _ (system : System) where
   rows_no_sample : (one : List LineForm) (count : ℕ) → SameSamples (one ++ (form.Rows count ∷ [])) one
   rows_no_sample one count = no_sample one (form.Rows count) refl (λ port. refl)
 
-  -- ---- A rule that is kept still
+  -- ---- A rule that is still kept
 
-  -- What is asked of a rule, by which lines break it: that it asks no more of a line; that the header before a line makes no difference,
-  -- nor what stands before a sample, as long as the samples there are the same; and that the new lines keep it.
+  -- What has to hold of a rule, by which lines break it. It requires no more of a line. The header before a line makes no difference.
+  -- The lines before a sample don't either, as long as the samples there are the same. The new lines keep it.
   record Carries (breaks : System → Site → Bool) : Type 0 where
     same : (site : Site) → breaks system site ≡ false → breaks changed site ≡ false
     header : breaks changed (top [] (form.Header system.version)) ≡ breaks changed (top [] (form.Header 2))
@@ -183,7 +183,7 @@ module _ (system : System) where
     sample_line : (earlier later : List LineForm) (port : PortName) → SameSamples earlier later
         → breaks changed (top earlier (form.Sample port)) ≡ breaks changed (top later (form.Sample port))
 
-  -- A rule that looks at the line and its scope alone.
+  -- A rule that depends only on the line and its scope.
   by_line : (breaks : System → Scope → LineForm → Bool)
       → ((scope : Scope) (line : LineForm) → breaks system scope line ≡ false → breaks changed scope line ≡ false)
       → breaks changed TopScope (form.Header system.version) ≡ breaks changed TopScope (form.Header 2)

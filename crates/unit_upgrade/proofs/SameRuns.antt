@@ -1,4 +1,4 @@
--- The upgrade of a system has no cycle where the system has none, and what is run of it is what is run of the system.
+-- The upgrade of a system has no cycle where the system has none, and its plain form runs as that of the system.
 use Rattle.std.proofs.Common.{◌≡◌, ℕ, ◌==◌, Bool, true, false, cond, List, [], ◌∷◌, ◌++◌, map, filter_map, length, Option, Some, None}
 use Rattle.std.proofs.Common.{refl, sym, ap, subst, ◌∙◌, arith, unwrap_or, option_map, ◌↔◌}
 use Rattle.std.proofs.lemmas.Bool.Decides.{nat_tests}
@@ -75,7 +75,7 @@ module _ (system : System) where
 
   -- ---- Runs
 
-  -- What is run, by its members and its budgets.
+  -- The run, by its members and its budgets.
   abbrev run_with : List EventMember → ℕ → ℕ → EventRun
   run_with members zeros rows = record {
     members = members;

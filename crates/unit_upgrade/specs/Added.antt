@@ -7,7 +7,7 @@ use Rattle.unit_tree.specs.declared.line_form.LineForm.{LineForm}
 use Rattle.unit_tree.specs.declared.line_form.LineForm.TheVariants as form
 use Rattle.unit_tree.specs.declared.system.System.{System}
 
--- The line of a count, where none is given.
+-- The line of a count, where the system has none.
 abbrev pub unless_given : (ℕ → LineForm) → Option ℕ → ℕ → List LineForm
 unless_given line None default = line default ∷ []
 unless_given line (Some given) default = []

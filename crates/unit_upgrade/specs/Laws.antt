@@ -1,4 +1,4 @@
--- Laws of upgrades: the upgrade of a system is one that is read, judged and run as the system is.
+-- Laws of upgrades: the upgrade of a system is read, judged and run as the system is.
 use Rattle.std.specs.Prelude.{◌≡◌, ◌↔◌, List}
 use Rattle.event_runs.specs.EventRuns.{IsEventTraceOf}
 use Rattle.event_runs.specs.EventTrace.{EventRow}
@@ -10,7 +10,7 @@ use Rattle.unit_tree.specs.declared.ending.Ending.{Ending}
 use Rattle.unit_tree.specs.declared.system.System.{System}
 use Rattle.unit_upgrade.specs.Upgrades.{IsShortEnough, upgraded}
 
--- Its text is read back as it, where that is no longer than a text may be.
+-- Its text is read back as the upgrade, where it is not too long.
 abbrev pub UpgradesArePrintable : Type 0
 UpgradesArePrintable =
     (system : System) → IsPrintable system → IsWellFormed system → IsShortEnough (upgraded system) → IsPrintable (upgraded system)

@@ -8,12 +8,12 @@ use Rattle.unit_upgrade.specs.Upgrades.{upgraded}
 abbrev one_instance : Instance
 one_instance = record { name = codes "a"; unit = codes "A"; settings = [] }
 
--- A system of version 1 with so many instances, of which nothing else is said.
+-- A system of version 1 with so many instances, and nothing else.
 abbrev pub bare : ℕ → System
 bare instances = record (bare_system 1) { instances = replicate instances one_instance }
 
--- Budgets that aren't given are the defaults of version 1, by which 1,000,000 rows are shared among the instances; those that
--- are given stay; and a system of version 2 stays as it is.
+-- Missing budgets become the defaults of version 1, by which 1,000,000 rows are shared among the instances. Present budgets stay.
+-- A system of version 2 stays as it is.
 pub record UpgradesAreWorked : Type 0 where
   pub one : upgraded (bare 1) ≡ record (bare 1) { version = 2; zero = Some 100; rows = Some 100000 }
   pub ten : (upgraded (bare 10)).rows ≡ Some 100000

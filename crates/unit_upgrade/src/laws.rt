@@ -2,8 +2,8 @@
 ghost use Rattle.unit_upgrade.specs.Laws.{UpgradesArePrintable, UpgradesAreWellFormed, UpgradesHaveNoCycle, UpgradesAreOfVersion2, UpgradesAreTheirOwn, UpgradesRunTheSame};
 ghost use Rattle.unit_upgrade.specs.Worked.{UpgradesAreWorked};
 
-/// A law: the upgrade of a printable, well-formed system is printable, where its text is short enough, and well-formed; it has no
-/// cycle where the system has none; it is of version 2, and its own upgrade; and it has the same rows, last point and end.
+/// A law: the upgrade of a system that is printable and well-formed is well-formed, and printable where its text is short enough.
+/// It has no cycle where the system has none. It is of version 2, and its own upgrade. It has the same rows, last point and end.
 pub fn upgrades_are_right()
     ensures printable { UpgradesArePrintable }
     ensures well_formed { UpgradesAreWellFormed }
@@ -13,7 +13,7 @@ pub fn upgrades_are_right()
     ensures trace { UpgradesRunTheSame }
 {}
 
-/// A law: upgrades that were worked out by hand are those of the definition.
+/// A law: by the definition, some upgrades are those that were worked out by hand.
 pub fn upgrades_are_worked()
     ensures { UpgradesAreWorked }
 {}

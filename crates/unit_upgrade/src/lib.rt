@@ -1,11 +1,11 @@
-//! Upgrades: a system of version 1 as the same system in version 2.
+//! Upgrades: the same system in version 2 for a system of version 1.
 //!
-//! The layer above uses [`upgrade`], which gives the system in version 2, with the defaults of version 1 written out where it
-//! gives no budgets, or says that its text would be too long. That it is printable and well-formed, has no cycle where the first
-//! had none, and has the same trace, are laws ([`upgrades_are_right`]).
+//! The layer above uses [`upgrade`], which returns the system in version 2, or that its text would be too long. It writes the
+//! default budgets of version 1 where the system has none. Laws say that the upgrade is printable and well-formed, has no cycle
+//! where the system has none, and has the same trace ([`upgrades_are_right`]).
 //!
 //! Definitions: `specs/Upgrades.antt` (the system, and when its text is too long), `specs/Laws.antt`, `specs/Worked.antt` (some
-//! that were worked out by hand). Which lines an upgrade adds, by which its length is counted, stands in `specs/Added.antt`.
+//! that were worked out by hand). `specs/Added.antt` has the lines that an upgrade adds, from which its length is counted.
 #![tactic(auto)]
 
 mod fault;

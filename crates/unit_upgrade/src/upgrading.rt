@@ -1,4 +1,4 @@
-//! The upgrade of a system, of which the length is counted first.
+//! The upgrade of a system, whose length is counted first.
 ghost use Rattle.std.specs.Prelude.{◌≡◌, ◌≤◌, length, IfOk, IfErr, OnOk};
 ghost use Rattle.unit_tree.specs.Canonical.{canonical_text};
 ghost use Rattle.unit_tree.specs.Compositions.{default_rows};
@@ -16,10 +16,10 @@ use unit_plain::copy_system;
 use unit_print::print_system;
 use unit_tree::System;
 
-/// How many steps of length zero may follow each other in version 1, where that is not given.
+/// The zero budget of version 1, where the text has none.
 const DEFAULT_ZEROS: u32 = 100;
 
-/// How many rows the trace of a system of version 1 has at most, where that is not given.
+/// Returns the budget of rows of a system of version 1, where its text has none.
 fn default_rows(system: &System) -> u32
     requires { 1 ≤ length system.now.instances }
     ensures { result ≡ default_rows 1 (length system.now.instances) }
@@ -27,7 +27,7 @@ fn default_rows(system: &System) -> u32
     (MOST_ROWS as usize).min(MOST_CELLS as usize / system.instances.len()) as u32
 }
 
-/// How many bytes the line takes that is added where the budget of steps of length zero isn't given.
+/// Returns the bytes of the line that is added where there is no zero budget.
 #[tactic(auto, using(crate::proofs::AddedLengths::zeros_length))]
 fn zeros_length(system: &System) -> usize
     ensures { result ≡ length (lines_text (zeros_added system.now)) }
@@ -38,7 +38,7 @@ fn zeros_length(system: &System) -> usize
     }
 }
 
-/// How many bytes the line takes that is added where the budget of rows isn't given.
+/// Returns the bytes of the line that is added where there is no budget of rows.
 #[tactic(auto, using(crate::proofs::AddedLengths::rows_length))]
 fn rows_length(system: &System) -> usize
     requires { 1 ≤ length system.now.instances }
@@ -53,8 +53,8 @@ fn rows_length(system: &System) -> usize
     }
 }
 
-/// How many bytes the canonical text of a system of version 1 has in version 2: those that it has, and those of the lines that
-/// are added. The text itself isn't made.
+/// Returns how many bytes the canonical text of a system of version 1 has in version 2: those that it has, and those of the added
+/// lines. The text itself isn't made.
 fn upgraded_length(alloc: Global, system: &System) -> Result<usize, NoMemory>
     requires printable { IsPrintable system.now }
     requires some_instance { 1 ≤ length system.now.instances }
@@ -66,7 +66,7 @@ fn upgraded_length(alloc: Global, system: &System) -> Result<usize, NoMemory>
     Ok(text.len() + zeros_length(system) + rows_length(system))
 }
 
-/// A system of version 1 in version 2.
+/// Returns a system of version 1 in version 2.
 fn in_version_2(alloc: Global, system: &System) -> Result<System, NoMemory>
     requires { 1 ≤ length system.now.instances }
     ensures { IfOk result (λ made. made ≡ in_version_2 system.now) }
@@ -78,11 +78,11 @@ fn in_version_2(alloc: Global, system: &System) -> Result<System, NoMemory>
     Ok(made)
 }
 
-/// The same system in version 2 of the language: a system of version 1 gets its version, and where it gives no budget the default
-/// of version 1 is written out, so that its trace stays what it is. A system of version 2 is copied.
+/// Returns the same system in version 2 of the language. A system of version 1 gets the version. Where it has no budget it gets
+/// the default of version 1, so that its trace stays the same. A system of version 2 is copied.
 ///
-/// Where the canonical text of the result has more bytes than a text may have, the answer is [`UpgradeFault::TooLong`], and else
-/// it is not, unless there is no memory. The length is counted before anything of the result is made.
+/// Fails with [`UpgradeFault::TooLong`] exactly where the canonical text of the result has more bytes than a text may have, unless
+/// memory is refused. The length is counted before anything of the result is made.
 pub fn upgrade(alloc: Global, system: &System) -> Result<System, UpgradeFault>
     requires printable { IsPrintable system.now }
     requires well_formed { IsWellFormed system.now }

@@ -17,8 +17,7 @@ pub(crate) struct Around {
     pub(crate) turns: u32,
 }
 
-/// What is known of the loops of a part: a row for each place, the part's cost, and the greatest
-/// number of loops around a place.
+/// The loops of a part: a row for each place, the part's cost, and the greatest number of loops around a place.
 #[derive(Drop)]
 pub(crate) struct LoopTable {
     pub(crate) rows: List<Around>,
@@ -26,7 +25,8 @@ pub(crate) struct LoopTable {
     pub(crate) deepest: u32,
 }
 
-/// The row behind an instruction. A `next` leads out of its loop, to what is around the loop's begin.
+/// Returns the row after an instruction. A `next` leaves its loop: the row after it is that at the beginning of the loop. `None` where
+/// it closes no loop.
 fn behind(flow: Flow, place: u32, here: Around, rows: &[Around]) -> Option<Around>
     requires depth { here.depth + 1 < 2 ^ 32 }
     requires turns { CanCount flow here }
@@ -52,7 +52,7 @@ fn behind(flow: Flow, place: u32, here: Around, rows: &[Around]) -> Option<Aroun
     }
 }
 
-/// The loops of a part, or none where they are not in order or the part costs too much.
+/// Returns the loops of a part, or `None` where they do not nest or the part costs too much.
 pub(crate) fn loop_table(alloc: Global, code: &[Instruction]) -> Result<Option<LoopTable>, NoMemory>
     requires { IsCounted code.now }
     ensures some { IfOk result (λ found. IfSome found (λ table. IsLoopTable code.now table)) }
@@ -99,7 +99,7 @@ fn same_innermost(one: Option<u32>, other: Option<u32>) -> bool
     }
 }
 
-/// Whether a jump at a place, if the instruction is one, stays in the part and in the loops around it.
+/// Returns whether a jump at a place stays in the part and in the loops around it. True of every other instruction.
 fn stays(flow: Flow, place: usize, rows: &[Around]) -> bool
     requires { place < 2 ^ 62 }
     ensures { result ≡ stays flow place rows.now }
@@ -116,7 +116,7 @@ fn stays(flow: Flow, place: usize, rows: &[Around]) -> bool
     }
 }
 
-/// Whether all jumps of a part do.
+/// Returns whether all jumps of a part stay in it and in the loops around them.
 pub(crate) fn jumps_stay(code: &[Instruction], table: &LoopTable) -> bool
     requires { IsLoopTable code.now table.now }
     ensures { IsTrue result ↔ JumpsStay code.now }

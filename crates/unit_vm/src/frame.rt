@@ -7,7 +7,7 @@ use fixed_words::NoMemory;
 use std::alloc::Global;
 use std::marker::Model;
 
-/// What a run works in: slots, room for the stacks, and what the last run left.
+/// The memory of a run: slots, space for the stacks, and the results of the last run.
 #[derive(Drop)]
 pub struct Frame {
     pub(crate) slots: Vec<i64>,
@@ -32,7 +32,7 @@ impl Model for Frame {
 impl Frame {
     ghost use Rattle.unit_vm.specs.FrameLends.{LendsSlots};
 
-    /// A frame with room for every run of code with these facts. Its slots are 0.
+    /// Returns a frame with space for every run of code with these facts. Its slots are 0.
     pub fn new(alloc: Global, facts: CodeFacts) -> Result<Frame, NoMemory>
         ensures { IfOk result (λ frame. frame ≡ new_frame facts) }
     {
@@ -49,7 +49,7 @@ impl Frame {
         })
     }
 
-    /// The slots: states, inputs and locals in their order, the local time and the step.
+    /// Lends the slots: states, inputs and locals in their order, then the local time and the step.
     pub fn slots(&mut self) -> &mut [i64]
         ensures* writes_back { sem 𝓛 (LendsSlots self.entry result) }
         ensures value { result.now ≡ self.old.slots }
@@ -58,14 +58,14 @@ impl Frame {
         self.slots.as_mut_slice()
     }
 
-    /// The length that the last run accepted, if it met no fault.
+    /// Returns the length that the last run accepted, if it met no fault.
     pub fn accepted(&self) -> u64
         ensures { result ≡ self.now.accepted }
     {
         self.accepted
     }
 
-    /// The word that the last run gave that gave one, if none met a fault since.
+    /// Returns the result of the last run that had one, if no run met a fault since.
     pub fn result(&self) -> i64
         ensures { result ≡ self.now.result }
     {

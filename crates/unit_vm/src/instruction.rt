@@ -5,15 +5,14 @@ use crate::program::{Role, Sizes};
 use fixed_words::Ty;
 use model_rules::MOST_TURNS;
 
-/// An instruction of the stack machine. It takes its operands from the stack of words, the last one
-/// from the top.
+/// An instruction of the stack machine. It pops its operands from the stack of words; the last operand is the top.
 #[derive(Clone, Copy, Debug, PartialEq, Eq)]
 pub enum Instruction {
     /// Pushes the word.
     Push(i64),
     /// Pushes the slot's word.
     Load(u32),
-    /// Pops a word and writes it to the slot; [`fixed_words::Fault::Range`] where it is none of the type's.
+    /// Pops a word and writes it to the slot. [`fixed_words::Fault::Range`] where it is not of the type.
     Store { slot: u32, ty: Ty },
     Add,
     Subtract,
@@ -24,7 +23,7 @@ pub enum Instruction {
     Magnitude,
     Min,
     Max,
-    /// Takes a word, a low and a high bound.
+    /// Pops a word, a low and a high bound, and pushes the word within the bounds.
     Clamp,
     Equal,
     NotEqual,
@@ -39,29 +38,29 @@ pub enum Instruction {
     FixedMultiply(u8),
     /// `/` of fixed-point words with so many decimals.
     FixedDivide(u8),
-    /// Gives the word so many decimals more.
+    /// Adds so many decimals to the word.
     ScaleUp(u8),
-    /// Takes so many decimals from the word.
+    /// Removes so many decimals from the word.
     ScaleDown(u8),
-    /// Goes on so many instructions ahead.
+    /// Jumps so many instructions ahead.
     Jump(u32),
-    /// Pops a word; goes on so many instructions ahead where it is 0, and else to the next one.
+    /// Pops a word. Jumps so many instructions ahead where it is 0, and otherwise goes to the next one.
     JumpFalse(u32),
     /// Begins a loop of so many turns.
     Loop(u32),
-    /// Ends a turn: goes so many instructions back for the next one, or on after the last.
+    /// Ends a turn: jumps so many instructions back for the next turn, or goes on after the last.
     Next(u32),
-    /// Pops the accepted length; [`fixed_words::Fault::Accept`] where it is negative or above the step's.
+    /// Pops the accepted length. [`fixed_words::Fault::Accept`] where it is negative or above the step's length.
     Accept,
-    /// Pops an output and ends the run; [`fixed_words::Fault::Range`] where it is none of the type's.
+    /// Pops an output and ends the run. [`fixed_words::Fault::Range`] where it is not of the type.
     Give(Ty),
-    /// Pops a greatest step and ends the run; [`fixed_words::Fault::Max`] where it is negative.
+    /// Pops a limit and ends the run. [`fixed_words::Fault::Max`] where it is negative.
     Limit,
     /// Ends the run.
     Done,
 }
 
-/// Where an instruction leads, apart from what it does to words.
+/// Where an instruction leads.
 #[derive(Clone, Copy, Debug)]
 pub enum Flow {
     /// To the next one.
@@ -79,7 +78,7 @@ pub enum Flow {
 }
 
 impl Instruction {
-    /// Where it leads.
+    /// Returns where it leads.
     pub fn flow(self) -> Flow
         ensures { result ≡ flow_of self }
     {
@@ -93,7 +92,7 @@ impl Instruction {
         }
     }
 
-    /// How many words it pops.
+    /// Returns how many words it pops.
     pub fn takes(self) -> u32
         ensures { result ≡ takes self }
     {
@@ -119,7 +118,7 @@ impl Instruction {
         }
     }
 
-    /// How many words it pushes then.
+    /// Returns how many words it pushes after that.
     pub fn leaves(self) -> u32
         ensures { result ≡ leaves self }
     {
@@ -137,7 +136,7 @@ impl Instruction {
         }
     }
 
-    /// Whether its argument is one that the table of operations allows, and the slot that it names is there.
+    /// Returns whether the table of operations allows its argument, and the slot that it uses exists.
     pub(crate) fn is_argued(self, sizes: Sizes) -> bool
         requires states { sizes.states ≤ 64 }
         requires inputs { sizes.inputs ≤ 32 }
@@ -157,7 +156,7 @@ impl Instruction {
         }
     }
 
-    /// Whether it may stand in a part for this use.
+    /// Returns whether a part for this use may have the instruction.
     pub(crate) fn fits(self, role: Role) -> bool
         ensures { result ≡ fits_role role self }
     {
@@ -170,7 +169,7 @@ impl Instruction {
     }
 }
 
-/// Whether a fixed-point type has at most 9 decimals.
+/// Returns whether the type exists: a fixed-point type has at most 9 decimals.
 fn is_known(ty: Ty) -> bool
     ensures { result ≡ is_type ty }
 {

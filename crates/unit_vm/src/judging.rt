@@ -20,7 +20,7 @@ pub(crate) struct PartFacts {
     pub(crate) cost: u32,
 }
 
-/// The facts of two lists of parts together.
+/// Returns the facts of two lists of parts together.
 fn merge(one: PartFacts, other: PartFacts) -> PartFacts
     ensures { result ≡ merged one other }
 {
@@ -31,7 +31,7 @@ fn merge(one: PartFacts, other: PartFacts) -> PartFacts
     }
 }
 
-/// Whether each instruction by itself may stand in the part.
+/// Returns whether the part may have each of its instructions.
 fn are_allowed(sizes: Sizes, role: Role, code: &[Instruction]) -> bool
     requires states { sizes.states ≤ 64 }
     requires inputs { sizes.inputs ≤ 32 }
@@ -46,7 +46,7 @@ fn are_allowed(sizes: Sizes, role: Role, code: &[Instruction]) -> bool
     true
 }
 
-/// The greatest height.
+/// Returns the greatest height.
 fn tallest(heights: &[Option<u32>]) -> u32
     ensures { result ≡ greatest (heights_in heights.now) }
 {
@@ -57,7 +57,7 @@ fn tallest(heights: &[Option<u32>]) -> u32
     best
 }
 
-/// The facts of a part, or none where it is not valid.
+/// Returns the facts of a part, or `None` where it is not valid.
 fn judge_part(
     alloc: Global,
     sizes: Sizes,
@@ -89,7 +89,7 @@ fn judge_part(
     }
 }
 
-/// The facts of the outputs' parts, or none where one is not valid.
+/// Returns the facts of the outputs' parts, or `None` where one is not valid.
 fn judge_outputs(
     alloc: Global,
     sizes: Sizes,
@@ -115,7 +115,7 @@ fn judge_outputs(
     Ok(Some(all))
 }
 
-/// The facts of the parts behind them.
+/// Returns the facts of the parts after those of the outputs, or `None` where one is not valid.
 fn judge_others(
     alloc: Global,
     sizes: Sizes,
@@ -141,7 +141,7 @@ fn judge_others(
     }
 }
 
-/// Whether a unit may have so many outputs, states, inputs and locals.
+/// Returns whether the numbers of outputs, states, inputs and locals are within the limits of a unit.
 fn is_sized(program: &Program) -> bool
     ensures { result ≡ is_sized program.now }
 {
@@ -152,7 +152,7 @@ fn is_sized(program: &Program) -> bool
         && sizes.locals <= MOST_LOCALS as u32
 }
 
-/// The facts of a program, or none where it is not valid.
+/// Returns the facts of a program, or `None` where it is not valid.
 pub(crate) fn facts_of(alloc: Global, program: &Program) -> Result<Option<CodeFacts>, NoMemory>
     ensures some { IfOk result (λ found. IfSome found (HasFacts program.now)) }
     ensures none { IfOk result (λ found. IfNone found (IsNoProgram program.now)) }

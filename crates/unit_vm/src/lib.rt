@@ -1,20 +1,29 @@
-//! The stack machine: what a component's code is, when it is valid, and what a run of it gives.
+//! The stack machine: what code is, when it is valid, and what a run of it returns.
 //!
-//! Code is a list of words: a table of entries and two words an instruction. [`Code::new`] and
-//! [`check_code`] tell valid code from all other words, and give its facts: how high the stacks get, what
-//! a run costs at most, how many slots a frame has. [`Code::new`] decodes the words once, and joins instructions into
-//! superinstructions; [`run`] follows these and tests nothing that validity promises: no operand, place or slot can be
-//! missing. It takes no memory.
+//! Code is a list of words: a table of entries, and two words for each instruction. [`Code::new`] and [`check_code`] accept
+//! exactly the valid code and return its facts: how high the stacks get, what a run costs at most, and how many slots a frame
+//! has. [`Code::new`] decodes the words once, and joins instructions into superinstructions. [`run`] follows these and does not
+//! test what validity ensures: no operand, place or slot can be missing. It takes no memory.
 //!
 //! The layer above uses [`Code`], [`Frame`] and [`run`], and writes code by [`Program`] and
 //! [`Instruction`].
 //!
-//! Definitions: `specs/Instructions.antt` (the table of operations), `specs/Programs.antt` (a program as
-//! words), `specs/Loops.antt` (loops and cost, by the text), `specs/Valid.antt` (valid code and its facts),
-//! `specs/Machine.antt` (one instruction, and a run), `specs/Frames.antt` (what a run leaves in a frame),
-//! `specs/Laws.antt`, `specs/Worked.antt`. How it is gone about stands in `specs/Registers.antt` (the state in registers and
-//! cells), `specs/Superinstructions.antt` (what each stands for, and does), `specs/Reading.antt` (words as a program),
-//! `specs/Tables.antt` and `specs/Judged.antt` (loops and heights by place).
+//! Definitions:
+//!
+//! - `specs/Instructions.antt`: the table of operations
+//! - `specs/Programs.antt`: a program as words
+//! - `specs/Loops.antt`: loops and cost, by the text
+//! - `specs/Valid.antt`: valid code and its facts
+//! - `specs/Machine.antt`: one instruction, and a run
+//! - `specs/Frames.antt`: what a run leaves in a frame
+//! - `specs/Laws.antt`, `specs/Worked.antt`: laws, and cases that were worked out by hand
+//!
+//! How the code proceeds:
+//!
+//! - `specs/Registers.antt`: the state in registers and cells
+//! - `specs/Superinstructions.antt`: which instructions each one does, and its effect
+//! - `specs/Reading.antt`: words as a program
+//! - `specs/Tables.antt` and `specs/Judged.antt`: loops and heights by place
 #![tactic(auto)]
 
 mod around;

@@ -6,7 +6,7 @@ ghost use Rattle.unit_vm.specs.Programs.{part_at};
 use crate::instruction::Instruction;
 use fixed_words::List;
 
-/// How many slots of each kind a frame has, in this order. Two more hold the local time and the step.
+/// How many slots of each kind a frame has, in this order. Two more slots have the local time and the step.
 #[derive(Clone, Copy, Debug, PartialEq, Eq)]
 pub struct Sizes {
     pub states: u32,
@@ -14,7 +14,7 @@ pub struct Sizes {
     pub locals: u32,
 }
 
-/// What a part of the code is run for, which says by what instruction it ends.
+/// What a part of the code is run for. It determines the instruction that ends the part.
 #[derive(Clone, Copy, Debug)]
 pub enum Role {
     Output,
@@ -22,7 +22,7 @@ pub enum Role {
     Step,
 }
 
-/// A run's entry into the code: an output by its number, the greatest step, or the step.
+/// A run's entry into the code: an output by its number, the limit, or the step.
 #[derive(Clone, Copy, Debug, PartialEq, Eq)]
 pub enum Entry {
     Output(u32),
@@ -30,8 +30,8 @@ pub enum Entry {
     Step,
 }
 
-/// The code of a unit as instructions: a part for each output, perhaps one for the greatest step,
-/// and one for the step.
+/// The code of a unit as instructions: a part for each output, one for the limit if the unit has a `max`, and one for the
+/// step.
 #[derive(Debug, Drop)]
 pub struct Program {
     pub sizes: Sizes,
@@ -40,7 +40,7 @@ pub struct Program {
     pub step: List<Instruction>,
 }
 
-/// What a frame must have room for, and how long a run may be.
+/// The facts of code: how much space a frame needs, and how long a run may be.
 #[derive(Clone, Copy, Debug, PartialEq, Eq)]
 pub struct CodeFacts {
     /// The greatest height of the stack of words.
@@ -49,12 +49,12 @@ pub struct CodeFacts {
     pub loops: u32,
     /// The greatest cost of a part: a run makes at most so many instructions.
     pub cost: u32,
-    /// How many slots there are, those of the local time and the step counted.
+    /// How many slots there are, including those of the local time and the step.
     pub slots: u32,
 }
 
 impl Sizes {
-    /// How many slots there are, those of the local time and the step counted.
+    /// Returns how many slots there are, including those of the local time and the step.
     pub fn slots(self) -> u32
         requires states { self.states ≤ 64 }
         requires inputs { self.inputs ≤ 32 }
@@ -64,7 +64,7 @@ impl Sizes {
         self.states + self.inputs + self.locals + 2
     }
 
-    /// Whether the slot may be written: a state's or a local's.
+    /// Returns whether the slot may be written: it is that of a state or a local.
     pub fn is_stored(self, slot: u32) -> bool
         requires states { self.states ≤ 64 }
         requires inputs { self.inputs ≤ 32 }
@@ -77,7 +77,7 @@ impl Sizes {
 }
 
 impl Program {
-    /// The code that is run at an entry, if the program has it.
+    /// Returns the code that is run at an entry, if the program has it.
     pub fn part(&self, entry: Entry) -> Option<&List<Instruction>>
         ensures { option_copied result ≡ part_at self.now entry }
     {

@@ -7,7 +7,7 @@ use fixed_words::{List, NoMemory, Ty};
 use model_rules::MOST_OUTPUTS;
 use std::alloc::Global;
 
-/// A word as a small number, and 0 where it is none.
+/// Returns a word as a small number, or 0 where it is not one.
 fn small(word: i64) -> u32
     ensures { result ≡ small word }
 {
@@ -18,7 +18,7 @@ fn small(word: i64) -> u32
     }
 }
 
-/// The type of a number.
+/// Returns the type with this number.
 fn type_at(number: u32) -> Ty
     ensures { result ≡ type_at number }
 {
@@ -45,7 +45,7 @@ fn type_at(number: u32) -> Ty
     types.get(number as usize).copied().unwrap_or(Ty::Int8)
 }
 
-/// The instruction of two words.
+/// Returns the instruction that two words encode.
 fn instruction_in(operation: i64, argument: i64) -> Instruction
     ensures { result ≡ instruction_in operation argument }
 {
@@ -97,7 +97,7 @@ fn instruction_in(operation: i64, argument: i64) -> Instruction
         .unwrap_or(Instruction::Done)
 }
 
-/// Words as instructions, two each.
+/// Returns words as instructions, two words each.
 fn code_in(alloc: Global, words: &[i64]) -> Result<List<Instruction>, NoMemory>
     ensures { IfOk result (λ code. code ≡ code_in words.now) }
 {
@@ -108,7 +108,7 @@ fn code_in(alloc: Global, words: &[i64]) -> Result<List<Instruction>, NoMemory>
     Ok(code)
 }
 
-/// The words between two places, as instructions.
+/// Returns the words between two places, as instructions.
 fn code_between(
     alloc: Global,
     words: &[i64],
@@ -141,7 +141,7 @@ fn outputs_of(words: &[i64]) -> usize
     number_at(words, 0).min(MOST_OUTPUTS as u32) as usize
 }
 
-/// The place of an output's part, and the place behind the last.
+/// Returns the place of an output's part; for the number of outputs, the place after the last part.
 fn output_place(words: &[i64], output: usize) -> usize
     requires { output ≤ 32 }
     ensures { result ≡ output_place words.now output }
@@ -188,8 +188,8 @@ fn limit_in(alloc: Global, words: &[i64]) -> Result<Option<List<Instruction>>, N
     Ok(Some(code))
 }
 
-/// The program that words are read as: any words are read as some program, and which words are refused
-/// comes from what this program is written as, and from whether it is valid.
+/// Returns the program that words are read as. Any words are read as some program. Words are refused where this program
+/// encodes as other words, or is not valid.
 pub(crate) fn program_in(alloc: Global, words: &[i64]) -> Result<Program, NoMemory>
     ensures { IfOk result (λ program. program ≡ program_in words.now) }
 {

@@ -8,7 +8,7 @@ use crate::program::Program;
 use fixed_words::{List, NoMemory, Ty};
 use std::alloc::Global;
 
-/// The number of a type: 0 to 7, and 8 and more for fixed point, by its decimals.
+/// Returns the number of a type: 0 to 7, and from 8 on fixed point, by its decimals.
 fn number_of(ty: Ty) -> u32
     ensures { result ≡ number_of ty }
 {
@@ -26,7 +26,7 @@ fn number_of(ty: Ty) -> u32
 }
 
 impl Instruction {
-    /// Its number in the table of operations, which is the first of its two words.
+    /// Returns its number in the table of operations, which is the first of its two words.
     pub fn operation(self) -> u8
         ensures { result ≡ operation_of self }
     {
@@ -68,7 +68,7 @@ impl Instruction {
         }
     }
 
-    /// Its argument, which is the second of its two words, or 0 where it has none.
+    /// Returns its argument, which is the second of its two words, or 0 where it has none.
     pub fn argument(self) -> i64
         ensures { result ≡ argument_of self }
     {
@@ -91,7 +91,7 @@ impl Instruction {
     }
 }
 
-/// Puts instructions behind words.
+/// Appends instructions to words.
 fn push_code(words: &mut List<i64>, code: &[Instruction]) -> Result<(), NoMemory>
     ensures { OnOk result (words.new ≡ words.old ++ written code.now) }
 {
@@ -102,7 +102,7 @@ fn push_code(words: &mut List<i64>, code: &[Instruction]) -> Result<(), NoMemory
     Ok(())
 }
 
-/// Puts the instructions of several parts behind words.
+/// Appends the instructions of several parts to words.
 fn push_parts(words: &mut List<i64>, parts: &[List<Instruction>]) -> Result<(), NoMemory>
     ensures { OnOk result (words.new ≡ words.old ++ written (joined parts.now)) }
 {
@@ -112,7 +112,7 @@ fn push_parts(words: &mut List<i64>, parts: &[List<Instruction>]) -> Result<(), 
     Ok(())
 }
 
-/// Puts the places of parts that follow one another behind words. The result is the place behind them.
+/// Appends to words the places of parts that follow one another. Returns the place after them.
 fn push_places(
     words: &mut List<i64>,
     first: usize,
@@ -130,7 +130,7 @@ fn push_places(
     Ok(behind)
 }
 
-/// Puts the instructions of a part behind words, if it is there.
+/// Appends the instructions of a part to words, if it exists.
 fn push_limit(words: &mut List<i64>, limit: &Option<List<Instruction>>) -> Result<(), NoMemory>
     ensures { OnOk result (words.new ≡ words.old ++ written (code_of_limit limit.now)) }
 {
@@ -140,7 +140,7 @@ fn push_limit(words: &mut List<i64>, limit: &Option<List<Instruction>>) -> Resul
     }
 }
 
-/// The words before the first instruction.
+/// Returns the words before the first instruction.
 fn table(alloc: Global, program: &Program) -> Result<List<i64>, NoMemory>
     requires { IsShort program.now }
     ensures { IfOk result (λ words. words ≡ table_of program.now) }
@@ -166,7 +166,7 @@ fn table(alloc: Global, program: &Program) -> Result<List<i64>, NoMemory>
 }
 
 impl Program {
-    /// The words that write the program.
+    /// Returns the words that encode the program.
     pub fn words(&self, alloc: Global) -> Result<List<i64>, NoMemory>
         requires { IsShort self.now }
         ensures { IfOk result (λ words. words ≡ program_words self.now) }

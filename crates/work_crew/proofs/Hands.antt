@@ -6,12 +6,12 @@ use Rattle.std.specs.List.{All}
 use Rattle.ticket_deque.specs.Ends.{HandState, HandTakes}
 
 module _ {T : Type 0} where
-  -- Behind which no place was taken.
+  -- No place from this one on was taken.
   pub taken_below : List (ℕ × T) → ℕ
   taken_below [] = 0
   taken_below (e ∷ es) = max (suc e.0) (taken_below es)
 
-  -- How many of the puts of a hand may be left.
+  -- How many of the added items of a hand may be left.
   abbrev pub left_in : HandState T → ℕ
   left_in hand = length hand.puts - taken_below hand.taken
 

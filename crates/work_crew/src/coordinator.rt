@@ -1,4 +1,4 @@
-//! The coordinator: it drives the run, and takes from the lanes what workers have answered.
+//! The coordinator: it drives the run, and takes answers of workers from the lanes.
 ghost use Rattle.std.specs.Prelude.{◌≡◌, ◌+◌, ◌≤◌, ◌<◌, length, true, false};
 ghost use Rattle.std.specs.Arc.{arc_value};
 ghost use Rattle.trace_core.specs.Runs.{IsWanted, is_ended};
@@ -15,10 +15,10 @@ use std::sync::{Arc, Mutex, Wait};
 use trace_core::{Plan, Run, Settle};
 use trace_rows::Drive;
 
-/// After so many looks a step that nobody has answered is made in any case.
+/// After so many looks, the run makes a step that nobody has answered, whatever the gate says.
 const MOST_TURNS: u64 = 20_000_000;
 
-/// How lines are guessed: for so many rows, and by which policy.
+/// How lines are guessed: for how many rows, and by which policy.
 #[derive(Clone, Copy)]
 pub(crate) struct Guessing {
     pub(crate) window: u32,
@@ -26,7 +26,8 @@ pub(crate) struct Guessing {
     ghost few: { window ≤ 16 },
 }
 
-/// A run whose steps are found in lanes, or made where nobody has answered them, with the front that tells the workers of it.
+/// A run whose steps are found in lanes, or made where nobody has answered them, with the cell that tells its progress to the
+/// workers.
 #[derive(Drop)]
 pub(crate) struct Coordinator<'a, R, G> {
     pub(crate) rt: R,
@@ -37,7 +38,7 @@ pub(crate) struct Coordinator<'a, R, G> {
     pub(crate) front: Arc<FrontCell>,
     pub(crate) writer: Writer,
     pub(crate) guessing: Guessing,
-    /// By instance.
+    /// One for each instance.
     pub(crate) patience: Vec<Patience>,
     pub(crate) gate: &'a G,
     ghost planned: { run.plan ≡ plan.value },
@@ -46,7 +47,7 @@ pub(crate) struct Coordinator<'a, R, G> {
     ghost not_ahead: { writer.front.rows ≤ run.stand.at.number + 1 },
 }
 
-/// What is left of a run when its front is closed. Only then may the caller wait for the workers to end.
+/// What is left of a run when its cell is closed. Only then may the caller wait for the workers to end.
 #[derive(Drop)]
 pub(crate) struct Closed {
     pub(crate) desk: Arc<Desk>,
@@ -54,7 +55,7 @@ pub(crate) struct Closed {
     ghost closed: { writer.front.closed ≡ true },
 }
 
-/// Takes what is found in a lane for the step that is wanted of an instance, and tells whether there was something.
+/// Accepts what is in a lane for the required step of an instance. Returns whether there was something.
 fn take_found<R: Wait>(rt: &R, lane: &Mutex<Lane>, run: &mut Run, instance: u32) -> bool
     ensures taken { result ≡ true → IsFilled run.old instance run.new }
     ensures kept { result ≡ false → run.new ≡ run.old }
@@ -69,7 +70,7 @@ fn take_found<R: Wait>(rt: &R, lane: &Mutex<Lane>, run: &mut Run, instance: u32)
     }
 }
 
-/// Looks in a lane for the step that is wanted of an instance, as often as the gate lets, and tells whether it was found.
+/// Looks in a lane for the required step of an instance, as often as the gate allows. Returns whether it was found.
 fn look<R: Wait, G: Gate>(
     rt: &R,
     gate: &G,
@@ -92,7 +93,7 @@ fn look<R: Wait, G: Gate>(
     take_found(rt, lane, run, instance)
 }
 
-/// Looks in the lane of an instance, if it was published, and has it remembered whether there was something.
+/// Looks in the lane of an instance, if it was published, and records whether there was something.
 fn look_if_published<R: Wait, G: Gate>(
     rt: &R,
     gate: &G,
@@ -118,7 +119,7 @@ fn look_if_published<R: Wait, G: Gate>(
     found
 }
 
-/// Fills the cell of an instance: with what is found in its lane, or by an own step.
+/// Fills the cell of an instance, from its lane or by an own step.
 fn fill<R: Wait, G: Gate>(
     rt: &R,
     gate: &G,
@@ -135,7 +136,7 @@ fn fill<R: Wait, G: Gate>(
     }
 }
 
-/// Fills all cells that are empty, one instance after the other.
+/// Fills all empty cells, one instance after the other.
 fn fill_all<R: Wait, G: Gate>(
     rt: &R,
     gate: &G,
@@ -154,8 +155,8 @@ fn fill_all<R: Wait, G: Gate>(
     }
 }
 
-/// Publishes the lane of an instance with what is guessed where the run stands, if it is one of that instance's image. Where that is
-/// refused the workers have less to do ahead, and nothing else follows.
+/// Publishes the lane of an instance with the guesses at the run's stand, if the lane has that instance's image. Where the lane is
+/// full, the workers have less to do ahead, and nothing else changes.
 fn publish<R: Wait>(
     rt: &R,
     alloc: Global,
@@ -185,7 +186,7 @@ fn publish<R: Wait>(
     }
 }
 
-/// Publishes all lanes but those that are left alone for now, which give no tickets meanwhile.
+/// Publishes all lanes except those that are left alone for now. These make no tickets meanwhile.
 fn publish_all<R: Wait>(
     rt: &R,
     alloc: Global,
@@ -219,7 +220,7 @@ fn publish_all<R: Wait>(
 }
 
 impl<'a, R: Wait + Drop, G: Gate> Coordinator<'a, R, G> {
-    /// Tells the workers that no row will follow.
+    /// Tells the workers that no row will follow, and ends the coordinator.
     pub(crate) fn close(self) -> Closed {
         let Coordinator {
             rt,
@@ -250,7 +251,7 @@ impl<'a, R: Wait + Drop, G: Gate> Drive for Coordinator<'a, R, G> {
             &self.desk,
             &mut self.patience,
         );
-        // The row where the run stands was put. What is behind it is given back, of which the lanes give no more by now.
+        // The row at the run's stand was written. Workers give back tickets for earlier rows; by now the lanes make no more of these.
         let rows = self.run.number() + 1;
         self.front.advance(&self.rt, &mut self.writer, rows);
         let instances = self.plan.instances();

@@ -26,14 +26,14 @@ use trace_rows::{CrewFault, Report, put_trace};
 use unit_names::lines_cost;
 use unit_tree::{Instance, System, Unit};
 
-/// The ends of the workers' deques: the hands, and a first reach of each.
+/// The ends of the workers' deques: the hands, and a first reach of each deque.
 #[derive(Drop)]
 struct Ends {
     hands: Vec<Hand<Ticket>>,
     reaches: Vec<Reach<Ticket>>,
 }
 
-/// A deque for each worker.
+/// Makes a deque for each worker.
 fn make_ends(alloc: Global, workers: u32) -> Result<Ends, NoMemory> {
     let mut hands = Vec::new(alloc);
     let mut reaches = Vec::new(alloc);
@@ -45,7 +45,7 @@ fn make_ends(alloc: Global, workers: u32) -> Result<Ends, NoMemory> {
     Ok(Ends { hands, reaches })
 }
 
-/// Appends a reach of its own into the deque of each.
+/// Appends a reach of each deque.
 fn add_reaches(
     alloc: Global,
     of: &mut [Reach<Ticket>],
@@ -57,7 +57,7 @@ fn add_reaches(
     Ok(())
 }
 
-/// The reaches of a worker into the hands of the others, in rising order behind its own.
+/// Returns the reaches of a worker into the hands of the others, in rising order, beginning after its own number.
 fn reaches_of(
     alloc: Global,
     reaches: &mut [Reach<Ticket>],
@@ -72,7 +72,7 @@ fn reaches_of(
     Ok(others)
 }
 
-/// A workplace for each instance of a plan.
+/// Returns a workplace for each instance of a plan.
 fn workplaces_of(alloc: Global, plan: &Plan) -> Result<Vec<Workplace>, NoMemory> {
     let mut workplaces = Vec::with_capacity(alloc, plan.instances() as usize)?;
     for instance in 0..plan.instances() {
@@ -88,7 +88,7 @@ struct Shared {
     front: Arc<FrontCell>,
 }
 
-/// What is shared, with the end of the front that advances it. No row is there yet.
+/// Returns what is shared, with the writer that advances the cell. There is no row yet.
 fn share(alloc: Global, plan: &Plan) -> Result<(Shared, Writer), NoMemory>
     ensures cell { IfOk result (λ made. made.1.cell ≡ arc_value made.0.front) }
     ensures front { IfOk result (λ made. made.1.front ≡ opening) }
@@ -102,7 +102,7 @@ fn share(alloc: Global, plan: &Plan) -> Result<(Shared, Writer), NoMemory>
     Ok((shared, writer))
 }
 
-/// The workers, before any of them is started.
+/// Returns the workers, before any of them is started.
 fn make_crew<R: Wait>(
     rt: &R,
     alloc: Global,
@@ -135,7 +135,7 @@ fn make_crew<R: Wait>(
     Ok(crew)
 }
 
-/// What the steps of an instance cost at most.
+/// Returns what the steps of an instance cost at most.
 fn step_cost(system: &System, instance: &Instance) -> u32 {
     match system.unit_of(instance) {
         Some(
@@ -148,7 +148,7 @@ fn step_cost(system: &System, instance: &Instance) -> u32 {
     }
 }
 
-/// The patience with each lane, at the beginning of a run.
+/// Returns the patience with each lane, at the beginning of a run.
 fn patience_of(alloc: Global, plan: &Plan) -> Result<Vec<Patience>, NoMemory> {
     let system = plan.checked().system();
     let mut patience = Vec::with_capacity(alloc, system.instances.len())?;
@@ -158,7 +158,8 @@ fn patience_of(alloc: Global, plan: &Plan) -> Result<Vec<Patience>, NoMemory> {
     Ok(patience)
 }
 
-/// A run that was opened with its crew: who drives it, the workers, of whom none is started, and a place for the thread of each.
+/// An opened run with its crew: the coordinator that drives it, the workers, which are not started, and a place for the thread of
+/// each.
 #[derive(Drop)]
 struct Opened<'a, R, G> {
     coordinator: Coordinator<'a, R, G>,
@@ -166,7 +167,7 @@ struct Opened<'a, R, G> {
     threads: Vec<Option<JoinHandle<()>>>,
 }
 
-/// Opens the run of a plan with its crew: takes all memory but that of the lines.
+/// Opens the run of a plan with its crew. Takes all memory except for that of the lines.
 fn open_crew<'a, R: Threads + Wait + Copy + Send + Drop + 'static, G: Gate>(
     rt: R,
     alloc: Global,
@@ -228,12 +229,12 @@ fn start_one<R: Threads + Wait + Copy + Send + 'static>(
     start_parts(rt, seat, tickets, workplaces)
 }
 
-/// Workers that were started. It can't be let go, so that nobody returns who hasn't waited for them.
+/// Workers that were started. It can't be dropped, so that no caller returns without waiting for them.
 struct Started {
     threads: Vec<Option<JoinHandle<()>>>,
 }
 
-/// Starts the workers, each in a place that is there for it. One that can't be started is not there.
+/// Starts the workers, each in a place that was allocated for it. One that can't be started is left out.
 fn start<R: Threads + Wait + Copy + Send + 'static>(
     rt: R,
     crew: Vec<Worker>,
@@ -245,7 +246,7 @@ fn start<R: Threads + Wait + Copy + Send + 'static>(
     Started { threads }
 }
 
-/// Waits until all workers have ended, which they do when the front is closed.
+/// Waits until all workers have ended, which they do when the cell is closed.
 fn join_all<R: Threads>(rt: &R, started: Started, _closed: &Closed) {
     let Started { threads } = started;
     for thread in threads {
@@ -255,7 +256,7 @@ fn join_all<R: Threads>(rt: &R, started: Started, _closed: &Closed) {
     }
 }
 
-/// A report with what became of the tickets.
+/// Returns a report with the counts of the tickets.
 fn with_tickets(report: Report, sums: TicketSums) -> Report
     ensures { result ≡ record report { tickets = sums.tickets; posted = sums.posted; back = sums.back; lapsed = sums.lapsed } }
 {
@@ -268,15 +269,15 @@ fn with_tickets(report: Report, sums: TicketSums) -> Report
     }
 }
 
-/// Runs a plan with so many workers, which step instances ahead from inputs that are guessed for so many rows: puts the header and
-/// each row of the trace as one piece, and reports how the trace ended. What is put and how it ends is that of the run without
-/// workers, whatever the workers do and however often the gate lets the run wait for them.
+/// Runs a plan with workers, which step instances ahead from inputs that are guessed for `window` rows. Writes the header and each
+/// row of the trace as one piece, and reports how the trace ended. What it writes and how it ends is that of the run without workers,
+/// whatever the workers do and however often the gate lets the run wait for them.
 ///
-/// A worker that can't be started, and want of memory of a worker, cost speculation alone. All workers that were started have ended
-/// when the call returns.
+/// If a worker can't be started or has no memory, only speculation is lost. All workers that were started have ended when the call
+/// returns.
 ///
-/// [`CrewFault::WriteFault`] where a put failed, and only there; then, or where there is no memory, what was put begins the text
-/// of the trace.
+/// Fails with [`CrewFault::WriteFault`] exactly where a write failed. After a failure the written bytes are a prefix of the text of
+/// the trace.
 pub fn run_crew<R: Threads + Wait + Copy + Send + Drop + 'static, O: Sink, G: Gate>(
     rt: R,
     alloc: Global,
@@ -294,7 +295,7 @@ pub fn run_crew<R: Threads + Wait + Copy + Send + Drop + 'static, O: Sink, G: Ga
     ensures cause { TellsFault (O.faults out.old) (O.faults out.new) result }
     ensures bounded { IfOk result (λ report. report.found + report.own ≤ 2 * length plan.value.run.members * report.rows) }
 {
-    // All memory but that of the lines is taken before anything is put, and before any worker is started.
+    // All memory except for that of the lines is taken before anything is written, and before any worker is started.
     let guessing = Guessing {
         window: cut_window(&plan, window),
         policy,

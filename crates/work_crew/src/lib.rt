@@ -1,20 +1,20 @@
 //! The crew: a run with workers, which step components ahead from guessed inputs.
 //!
-//! [`run_crew`] runs a plan as the serial run does, and puts the same bytes: the loop over the rows is that of `trace_rows`, which is
-//! driven here by a coordinator in the calling thread. It publishes a lane for each instance with what is guessed of the next
-//! rows, takes from the lanes what is the answer to the step that is wanted, and makes each step itself that nobody has answered.
-//! The workers take tickets of the lanes, answer them by units of their own, and post the answers.
+//! [`run_crew`] runs a plan as the serial run does, and writes the same bytes. The loop over the rows is that of `trace_rows`. A
+//! coordinator in the calling thread drives it. It publishes a lane for each instance with guesses of the next rows, takes the
+//! answers to required steps from the lanes, and makes each step itself that nobody has answered. The workers take tickets of the
+//! lanes, answer them by units of their own, and post the answers.
 //!
-//! A lane in which nothing is found again and again, or whose steps are light, is left alone for a while, so that workers cost little
+//! A lane in which nothing is found again and again, or whose steps are light, is left alone for a while. So workers cost little
 //! where they don't help.
 //!
-//! The lanes stand under a lock each, and no thread holds two. Nothing that is put depends on what stands in a lane: an answer is taken
-//! only where its key is that of the step that is wanted, and each answer is the meaning of its key. A [`Gate`] says how long the
-//! coordinator waits for the workers; no promise depends on it.
+//! Each lane has its own lock, and no thread holds two locks. The written bytes don't depend on the contents of lanes: an answer is
+//! accepted only where its key is that of the required step, and each answer is the meaning of its key. A [`Gate`] says how long
+//! the coordinator waits for the workers; no promise depends on it.
 //!
-//! The layer above uses [`run_crew`] with its [`Report`] and [`CrewFault`], [`Gate`], [`OpenGate`] and [`Policy`]. It has no definitions
-//! of its own: what is put and reported is by `specs/Reports.antt` of `trace_rows`, when a put failed by `specs/Faults.antt` there, and
-//! how a driver fills cells by `specs/Passing.antt`.
+//! The layer above uses [`run_crew`] with its [`Report`] and [`CrewFault`], [`Gate`], [`OpenGate`] and [`Policy`]. The crate has
+//! no definitions of its own. In `trace_rows`, `specs/Reports.antt` defines what is written and reported, `specs/Faults.antt` when a
+//! write failed, and `specs/Passing.antt` how a driver fills cells.
 #![tactic(auto)]
 
 mod coordinator;

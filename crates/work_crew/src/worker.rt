@@ -1,4 +1,4 @@
-//! A worker: it takes tickets, steps components ahead from guessed inputs, and posts what they answer.
+//! A worker: it takes tickets, steps components ahead from guessed inputs, and posts the answers.
 ghost use Rattle.std.specs.Prelude.{◌≡◌, true};
 ghost use Rattle.std.specs.Option.{ForSome};
 ghost use Rattle.std.specs.Arc.{arc_value};
@@ -15,7 +15,7 @@ use ticket_deque::{Hand, Reach};
 use unit_answers::Proven;
 use unit_exec::{Image, Unit};
 
-/// A worker's view of the front.
+/// A worker's view of the progress cell.
 #[derive(Drop)]
 pub(crate) struct Watch {
     pub(crate) front: Arc<FrontCell>,
@@ -24,13 +24,13 @@ pub(crate) struct Watch {
 }
 
 impl Watch {
-    /// How far the run has come.
+    /// Returns how far the run has come.
     fn look<R: Wait>(&mut self, rt: &R) -> Front {
         self.front.read(rt, &mut self.reader)
     }
 }
 
-/// Where a worker makes the answers of an instance: its image, and a unit of the worker's own, where it has answered one.
+/// Where a worker makes the answers of an instance: its image, and a unit of the worker's own, once it has answered a ticket.
 #[derive(Drop)]
 pub(crate) struct Workplace {
     image: Arc<Image>,
@@ -39,12 +39,12 @@ pub(crate) struct Workplace {
 }
 
 impl Workplace {
-    /// One without a unit.
+    /// Returns a workplace without a unit.
     pub(crate) fn new(image: Arc<Image>) -> Workplace {
         Workplace { image, unit: None }
     }
 
-    /// Appends the answers to a ticket that fits, those to its first cells where there is no memory for all.
+    /// Appends the answers to a ticket that fits. Where memory is refused, these are the answers to its first cells.
     fn answer(
         &mut self,
         alloc: Global,
@@ -64,7 +64,7 @@ impl Workplace {
     }
 }
 
-/// Whether a ticket fits an image: there is a word at its start for each state, and one of each cell for each input.
+/// Returns whether a ticket fits an image: its start has a word for each state, and each of its cells one for each input.
 fn fits(image: &Image, ticket: &Ticket) -> bool
     ensures { result ≡ true → FitsImage image.now ticket.now }
 {
@@ -75,7 +75,7 @@ fn fits(image: &Image, ticket: &Ticket) -> bool
         && first.inputs.as_slice().len() == image.inputs() as usize
 }
 
-/// Whether a ticket begins before the row where a run stands that has put so many.
+/// Returns whether a ticket begins before the row of a run that has written so many.
 fn is_behind(ticket: &Ticket, rows: u64) -> bool {
     match ticket.cells() {
         [first, ..] => first.row.saturating_add(1) < rows,
@@ -83,7 +83,7 @@ fn is_behind(ticket: &Ticket, rows: u64) -> bool {
     }
 }
 
-/// The lanes from which a worker takes tickets first: those whose numbers leave its own of the number of workers.
+/// The lanes from which a worker takes tickets first: those whose number has the worker's number as remainder by that of workers.
 #[derive(Clone, Copy)]
 pub(crate) struct Home {
     pub(crate) number: u32,
@@ -91,13 +91,13 @@ pub(crate) struct Home {
 }
 
 impl Home {
-    /// Whether the lane of an instance is one of them.
+    /// Returns whether the lane of an instance is one of them.
     fn has(self, instance: u32) -> bool {
         instance % self.workers.max(1) == self.number
     }
 }
 
-/// What a worker sees of the run, and the lanes of its own.
+/// What a worker sees of the run, and its home lanes.
 #[derive(Drop)]
 pub(crate) struct Seat {
     pub(crate) watch: Watch,
@@ -106,7 +106,7 @@ pub(crate) struct Seat {
     pub(crate) alloc: Global,
 }
 
-/// The tickets that a worker may take: those of its hand, and by reaches those of the others, in rising order behind its own.
+/// The tickets that a worker may take: those of its hand, and by reaches those of the others, in rising order after its own number.
 #[derive(Drop)]
 pub(crate) struct Tickets {
     pub(crate) hand: Hand<Ticket>,
@@ -114,7 +114,7 @@ pub(crate) struct Tickets {
 }
 
 impl Tickets {
-    /// The next ticket of the hand, or one of another's.
+    /// Returns the next ticket of the hand, or one of another's, or `None` where all are empty.
     fn next<R: Wait>(&mut self, rt: &R) -> Option<Ticket> {
         if let Some(ticket) = self.hand.next() {
             return Some(ticket);
@@ -127,7 +127,7 @@ impl Tickets {
         None
     }
 
-    /// Gives back what the hand holds.
+    /// Gives back the tickets of the hand.
     fn give_back<R: Wait>(&mut self, rt: &R, desk: &Desk) {
         while let Some(ticket) = self.hand.next() {
             desk.back(rt, ticket);
@@ -140,13 +140,13 @@ impl Tickets {
 pub(crate) struct Worker {
     pub(crate) seat: Seat,
     pub(crate) tickets: Tickets,
-    /// By instance.
+    /// One for each instance.
     pub(crate) workplaces: Vec<Workplace>,
 }
 
-/// What is done in a thread that is given a worker's parts. Who starts it knows of each part by itself that it may go to a thread.
+/// The work of a thread, from a worker's parts. The parts are separate, so that each of them is known to be sendable to a thread.
 pub(crate) trait Works<T, P> {
-    /// Does it.
+    /// Does the work.
     fn work<R: Wait>(self, tickets: T, workplaces: P, rt: &R);
 }
 
@@ -162,8 +162,8 @@ impl Works<Tickets, Vec<Workplace>> for Seat {
 }
 
 impl Worker {
-    /// Works turn by turn, until the front is closed or there is no memory. Then it gives back all that it holds. The longer it finds
-    /// nothing, the more seldom it looks, however fast the run goes on: who looks often holds up who runs.
+    /// Works turn by turn, until the cell is closed or memory is refused. Then it gives back all its tickets. The longer it finds
+    /// nothing, the less often it looks, however fast the run is: a worker that looks often slows the run down.
     fn work<R: Wait>(mut self, rt: &R) {
         let backoff = Backoff::new();
         for _ in rt.forever() {
@@ -180,8 +180,8 @@ impl Worker {
         self.tickets.give_back(rt, &self.seat.desk);
     }
 
-    /// One turn, when so many rows were put, and whether it found a ticket. One that begins at a row which the run has left is given
-    /// back: what is needed from where it stands is on another.
+    /// Makes one turn, when so many rows were written. Returns whether it found a ticket. A ticket for a row which the run has left is
+    /// given back: from its present row, the run needs another one.
     fn turn<R: Wait>(&mut self, rt: &R, rows: u64) -> Result<bool, NoMemory> {
         let served = self.take_home(rt)?;
         match self.tickets.next(rt) {
@@ -197,8 +197,8 @@ impl Worker {
         }
     }
 
-    /// Takes a ticket of each home lane that gives one. One that its hand has no room for is served at once; whether there was one is
-    /// the answer.
+    /// Takes a ticket of each home lane that makes one. A ticket for which the hand has no space is answered at once. Returns whether
+    /// there was such a ticket.
     fn take_home<R: Wait>(&mut self, rt: &R) -> Result<bool, NoMemory> {
         let mut served = false;
         for instance in 0..self.seat.desk.len() as u32 {
@@ -216,7 +216,7 @@ impl Worker {
         Ok(served)
     }
 
-    /// Answers a ticket, and posts what was answered. One that fits no workplace is given back.
+    /// Answers a ticket, and posts the answers. A ticket that fits no workplace is given back.
     fn serve<R: Wait>(&mut self, rt: &R, ticket: Ticket) -> Result<(), NoMemory> {
         let Some(workplace) = self.workplaces.get_mut(ticket.instance() as usize) else {
             self.seat.desk.back(rt, ticket);

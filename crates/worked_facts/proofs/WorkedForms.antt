@@ -19,7 +19,7 @@ use Rattle.text_tokens.specs.Scanning.{keyword_of, symbol_of, word_at, number_at
 use Rattle.worked_facts.specs.WorkedTexts.{letters}
 use Rattle.text_tokens.proofs.Spelled.{spells, tokens_in}
 
--- A line of at most thirty tokens has the form that they write.
+-- A line of at most thirty tokens has the form of its tokens.
 has_form : (some : LineForm) (line : List ℕ) (tokens : List Token) → tokens_in 30 (code_of line) ≡ Some tokens → WritesForm some tokens → HasForm some line
 has_form some line tokens is written = record { tokens = tokens; spelled = spells 30 (code_of line) tokens is; written = written }
 

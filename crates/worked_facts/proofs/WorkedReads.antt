@@ -1,4 +1,4 @@
--- Worked texts say their systems.
+-- The systems of worked texts.
 use Rattle.std.proofs.Common.{◌≡◌, ◌≤◌, ℕ, List, [], ◌∷◌, map, length, refl, sym, subst, Bool, false, true, arith, None}
 use Rattle.std.specs.Prelude.{codes, pos, neg_ℤ, IsTrue, nat_le, not}
 use Rattle.std.specs.Fmt.{digits}

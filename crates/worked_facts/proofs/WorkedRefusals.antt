@@ -26,7 +26,7 @@ use Rattle.worked_facts.proofs.WorkedForms.{plain_header, header_2, unit_a, end_
 
 -- ---- The forms that some lines may have
 
--- What a line writes, where the tokens that it spells are known.
+-- The form of a line whose tokens are known.
 written_with : (some : LineForm) (line : List ℕ) (tokens : List Token) → Spells tokens (code_of line) → HasForm some line → WritesForm some tokens
 written_with some line tokens spelled has = subst (WritesForm some) (spells_one has.tokens tokens (code_of line) has.spelled spelled) has.written
 
@@ -80,12 +80,12 @@ word_has_none some has = tokens_none (codes "1a") (omega arith) refl has.tokens 
 
 -- ---- Lines that keep the rules
 
--- Lines of which none is left have no forms.
+-- Where no lines are left, there are no forms.
 no_forms : (text : List (List ℕ)) (forms : List LineForm) → HaveForms text forms [] → forms ≡ []
 no_forms text [] have = refl
 no_forms text (some ∷ forms) have = absurd have
 
--- One line has one form, where all its forms are the same.
+-- One line has only one form, where all its forms are equal.
 one_form : (text : List (List ℕ)) (line : List ℕ) (is : LineForm) → ((some : LineForm) → HasForm some line → some ≡ is) → (forms : List LineForm)
     → AllZip (HasFormIn text) forms (line ∷ []) → forms ≡ is ∷ []
 one_form text line is only [] have = absurd have
@@ -283,7 +283,7 @@ not_version_2 later begins = by_cut begins.before begins.line begins.later begin
         subst (λ l. (is_blank_line l && list_all is_blank_line before) ≡ true) here blank in
         absurd (cc told)
 
--- No line of such a text has a form that is of version 2 alone.
+-- No line of such a text has a form that only version 2 has.
 no_new_form : (later : List (List ℕ)) (line : List ℕ) (is : LineForm) → ((some : LineForm) → HasForm some line → some ≡ is) → is_of_version_2 is ≡ true
     → (some : LineForm) → HasFormIn (codes "cosim 1" ∷ later) some line → ⊥
 no_new_form later line is only new some has = not_version_2 later (has.of_version (subst (λ f. is_of_version_2 f ≡ true) (sym (only some has.has_form)) new))

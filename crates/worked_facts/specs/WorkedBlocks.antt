@@ -1,4 +1,4 @@
--- Worked lines of texts: where each line ends, what it holds, and where a form may stand.
+-- Worked lines of texts: where each line ends, what it has, and where a form is allowed.
 use Rattle.std.specs.Prelude.{◌≡◌, Bool, true, false, List, [], ◌∷◌, ◌++◌, codes, pos}
 use Rattle.std.specs.List.{repeat}
 use Rattle.fixed_words.specs.declared.types.Literal.TheVariants as literal
@@ -37,19 +37,19 @@ limit = form.Max (expr.Number (pos 3) 0)
 abbrev pub event : LineForm
 event = form.EventInput (record { name = codes "e"; ty = Int64 })
 
--- Whether a line may stand behind these.
+-- Whether a line may follow these.
 abbrev pub stands_behind : List LineForm → LineForm → Bool
 stands_behind lines line = may_stand (and_lines no_lines lines) line
 
 pub record LinesAreWorked : Type 0 where
-  -- a line ends with LF or with the text; one CR before the end is no part of it, and a second one is
+  -- A line ends with LF or with the text. One CR before the end is no part of it, and a second one is.
   pub empty_text : source_lines [] ≡ []
   pub blank_lines : source_lines (10 ∷ 10 ∷ []) ≡ [] ∷ [] ∷ []
   pub return_alone : source_lines (13 ∷ []) ≡ [] ∷ []
   pub two_returns : source_lines (97 ∷ 13 ∷ 13 ∷ 10 ∷ 98 ∷ []) ≡ (97 ∷ 13 ∷ []) ∷ codes "b" ∷ []
   pub last_end_counted : size_of (codes "ab") ≡ 3
   pub last_end_there : size_of (97 ∷ 98 ∷ 10 ∷ []) ≡ 3
-  -- a comment goes to the end of the line and may hold every byte
+  -- A comment goes to the end of the line and may have any byte.
   pub code : code_of (codes "stop 3 # a # b") ≡ codes "stop 3 "
   pub comment_is_blank : is_blank_line (32 ∷ 9 ∷ 35 ∷ 200 ∷ []) ≡ true
   pub comment_allows : has_forbidden_byte (97 ∷ 35 ∷ 200 ∷ 13 ∷ []) ≡ false
@@ -58,10 +58,10 @@ pub record LinesAreWorked : Type 0 where
   pub delete_forbidden : has_forbidden_byte (127 ∷ []) ≡ true
 
 pub record BlocksAreWorked : Type 0 where
-  -- which blocks lines leave open, the innermost first
+  -- The blocks that lines leave open, the innermost first.
   pub in_else : open_blocks (choice ++ (form.Else ∷ [])) ≡ InElse ∷ InStep ∷ InUnit ∷ []
   pub after_end : open_blocks (choice ++ (form.Else ∷ form.End ∷ [])) ≡ InStep ∷ InUnit ∷ []
-  -- a form stands in its block alone
+  -- A form is allowed only in its block.
   pub max_in_unit : stands_behind unit (form.Max (expr.Truth true)) ≡ true
   pub stop_in_unit : stands_behind unit stop ≡ false
   pub stop_at_top : stands_behind (unit ++ (form.End ∷ [])) stop ≡ true
@@ -71,17 +71,17 @@ pub record BlocksAreWorked : Type 0 where
   pub assignment_in_unit : stands_behind unit (form.Assign (codes "n") (expr.Truth true)) ≡ false
   pub event_in_unit : stands_behind unit event ≡ true
   pub event_in_step : stands_behind step event ≡ false
-  -- one `else` in an `if`, and none elsewhere
+  -- One `else` in an `if`, and none elsewhere.
   pub else_in_if : stands_behind choice form.Else ≡ true
   pub second_else : stands_behind (choice ++ (form.Else ∷ [])) form.Else ≡ false
   pub else_in_step : stands_behind step form.Else ≡ false
   pub else_of_inner : stands_behind (choice ++ (form.Else ∷ branch ∷ [])) form.Else ≡ true
-  -- lines that stand once
+  -- Lines that are allowed once.
   pub second_header : stands_behind header (form.Header 1) ≡ false
   pub second_stop : stands_behind (header ++ (stop ∷ [])) stop ≡ false
   pub second_max : stands_behind (unit ++ (limit ∷ [])) limit ≡ false
   pub max_of_next_unit : stands_behind (unit ++ (limit ∷ form.End ∷ form.Unit (codes "B") ∷ [])) limit ≡ true
   pub second_step : stands_behind (step ++ (form.End ∷ [])) form.Step ≡ false
-  -- sixteen blocks in each other, those of `unit` and `step` not counted
+  -- Sixteen blocks in each other, not counting those of `unit` and `step`.
   pub sixteenth : stands_behind (step ++ repeat 15 (branch ∷ [])) (form.Repeat 2) ≡ true
   pub seventeenth : stands_behind (step ++ repeat 16 (branch ∷ [])) (form.Repeat 2) ≡ false

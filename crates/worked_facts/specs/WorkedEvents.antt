@@ -159,7 +159,7 @@ plain_pulse_and_tally =
     ∷ parts.Samples (port (codes "c") (codes "k"))
     ∷ []
 
--- ---- Plain ports beside those of events
+-- ---- Plain ports and event ports together
 
 -- `if present(e) then .. else ..`
 abbrev pub if_present : Expr → Expr → Expr
@@ -223,20 +223,20 @@ pub record PlainFormsAreWorked : Type 0 where
   pub lines : lines_of_system (system_of 2 pulse_and_tally) ≡ pulse_and_tally_lines
   pub plain : plain_form (system_of 2 pulse_and_tally) ≡ system_of 2 plain_pulse_and_tally
   pub mixed_plain : plain_form (system_of 2 mixed) ≡ system_of 2 plain_mixed
-  -- a system of version 1 is its own
+  -- A system of version 1 is its own plain form.
   pub same : plain_form (system_of 1 (run_of counts)) ≡ system_of 1 (run_of counts)
-  -- needs, in which an event input is two, and an input that is plain stays one
+  -- Needs: an event input becomes two, and a plain input stays one.
   pub needs : lines_of_system
       (plain_form (system_of 2 (unit_a (input_u ∷ input_e ∷ output_y types.Bool (codes "e" ∷ codes "u" ∷ []) (expr.Present (codes "e")) ∷ []) ∷ [])))
       ≡ codes "cosim 2" ∷ codes "unit A" ∷ codes "input u:Int64=0" ∷ codes "input e?:Bool=false" ∷ codes "input e:Int64=0"
       ∷ codes "output y:Bool needs e?,e,u=e?" ∷ codes "end" ∷ []
-  -- what an event output becomes: of `absent`, of a choice whose branches are choices, and of any other
+  -- What an event output becomes: of `absent`, of a choice whose branches are choices, and of any other expression.
   pub presence_of_absent : presence_of expr.Absent ≡ expr.Truth false
   pub presence_of_choices : presence_of (expr.Choose e (at_times n) n)
       ≡ expr.Choose e (expr.Choose (expr.Binary by.Eq n one) (expr.Truth true) (expr.Truth false)) (expr.Truth true)
   pub word_of_choices : word_expression_of (types.Fixed 2) (expr.Choose e (at_times n) n)
       ≡ expr.Choose e (expr.Choose (expr.Binary by.Eq n one) n (expr.Number (pos 0) 2)) n
-  -- the zero of each kind
+  -- The zero of each kind.
   pub zero_of_truth : zero_of types.Bool ≡ expr.Truth false
   pub zero_of_fixed_0 : zero_of (types.Fixed 0) ≡ expr.Unary (of.ToFix 0) (expr.Number (pos 0) 0)
 
@@ -254,7 +254,7 @@ abbrev pub event_pair : List Part → List Part
 event_pair wires =
     unit_a (input_u ∷ input_e ∷ output_p [] one ∷ []) ∷ instance (codes "a") ∷ instance (codes "b") ∷ wires ++ (stop ∷ [])
 
--- So many choices in each other, of `absent` alone.
+-- So many choices in each other, with only `absent` in them.
 abbrev pub gaps : ℕ → Expr
 gaps zero = expr.Absent
 gaps (suc count) = expr.Choose (expr.Truth true) expr.Absent (gaps count)
@@ -270,7 +270,7 @@ is_mistaken value = mistakes_kind (UnitScope with_e) (form.EventOutput (event_ou
 abbrev pub is_deep_event : Ty → Expr → Bool
 is_deep_event ty value = has_deep_expression (system_of 2 []) (UnitScope with_e) (form.EventOutput (event_out ty [] value))
 
--- A connection of events of these two.
+-- A connection of these two event ports.
 abbrev pub of_events : LineForm
 of_events = form.Connect (record { from = port (codes "a") (codes "p"); to = port (codes "b") (codes "e") })
 
@@ -279,19 +279,19 @@ pub record EventsAreWorked : Type 0 where
   pub absent_written : Worked (phrase.Choose (phrase.Present (codes "e")) phrase.Absent (phrase.Parens phrase.Absent))
       (codes "if present(e)then absent else(absent)") (codes "if present(e)then absent else absent")
   pub accepted : Accepted2 (event_pair (p_to_e ∷ []))
-  -- an event port stands behind the plain ones, wherever the text has it
+  -- Event ports come after the plain ones, wherever the text has them.
   pub event_first : in_canonical_order {A = ℕ} (unit_a (output_p [] one ∷ input_e ∷ output_y types.Int64 [] one ∷ input_u ∷ []) ∷ [])
       (1 ∷ 2 ∷ 3 ∷ 4 ∷ 5 ∷ 6 ∷ 7 ∷ [])
       ≡ 1 ∷ 2 ∷ 6 ∷ 4 ∷ 5 ∷ 3 ∷ 7 ∷ []
-  -- a system of version 1 has no event ports in range, and no text where it speaks of events
+  -- A system of version 1 in range has no event ports, and no text where it has expressions about events.
   pub ports_of_version_1 : IsRanged (system_of 1 (run_of (input_e ∷ []))) → ⊥
   pub absent_of_version_1 : IsPrintable (system_of 1 (run_of (output_y types.Int64 [] expr.Absent ∷ []))) → ⊥
-  -- 8: event ports are names of their unit
+  -- 8: event ports are names of their unit.
   pub equal_names : Refused2 (run_of (input_u ∷ parts.HasEventOut (record { name = codes "u"; ty = types.Int64; needs = []; value = expr.Absent }) ∷ [])) 8 4
-  -- 9: `present` of what is no event input; a need, a sample and a connection may be of event ports
+  -- 9: `present` of a port that is not an event input. A need, a sample and a connection may be of event ports.
   pub presence_of_input : Refused2 (run_of (input_u ∷ output_p (codes "u" ∷ []) (expr.Present (codes "u")) ∷ [])) 9 4
   pub sampled : Accepted2 (event_pair (parts.Samples (port (codes "a") (codes "p")) ∷ []))
-  -- 10: kinds of the choices of an event output, and where `absent` may stand
+  -- 10: kinds of the choices of an event output, and where `absent` is allowed.
   pub choices : is_mistaken (expr.Choose (expr.Present (codes "e")) expr.Absent n) ≡ false
   pub absent_alone : is_mistaken expr.Absent ≡ false
   pub both_absent : is_mistaken (expr.Choose (expr.Present (codes "e")) expr.Absent expr.Absent) ≡ false
@@ -302,16 +302,16 @@ pub record EventsAreWorked : Type 0 where
   pub absent_in_max : Refused2 (run_of (parts.Max expr.Absent ∷ [])) 10 3
   pub absent_assigned : Refused2 (run_of (counts ++ (parts.Step (set (codes "n") expr.Absent ∷ []) ∷ []))) 10 6
   pub present_in_version_1 : Refused (run_of (input_e ∷ output_y types.Bool (codes "e" ∷ []) (expr.Present (codes "e")) ∷ [])) 10 4
-  -- 12: `present` uses its input, and an event output has needs of its own
+  -- 12: `present` uses its input, and an event output has needs of its own.
   pub hidden_presence : Refused2 (run_of (input_e ∷ output_y types.Bool [] (expr.Present (codes "e")) ∷ [])) 12 4
   pub needed_presence : Accepted2 (run_of (input_e ∷ output_y types.Bool (codes "e" ∷ []) (expr.Present (codes "e")) ∷ []))
   pub hidden_in_event : Refused2 (run_of (input_u ∷ output_p [] (expr.Var (codes "u")) ∷ [])) 12 4
-  -- 14: connections of event ports
+  -- 14: connections of event ports.
   pub to_a_plain_input : Refused2 (event_pair (wire (port (codes "a") (codes "p")) (port (codes "b") (codes "u")) ∷ [])) 14 11
   pub from_a_plain_output : Refused2
       (unit_a (input_e ∷ output_y types.Int64 [] one ∷ []) ∷ instance (codes "a") ∷ instance (codes "b")
       ∷ wire (port (codes "a") (codes "y")) (port (codes "b") (codes "e")) ∷ stop ∷ []) 14 10
-  -- 16: an event port, and a connection of events, are two; the samples are one each
+  -- 16: an event port, and a connection of events, count as two. A sample counts as one.
   pub sixteen_events : exceeds (system_of 2 []) (UnitScope with_e) (repeat 15 (form.EventInput (event_in types.Bool) ∷ []))
       (form.EventInput (event_in types.Bool))
       ≡ false
@@ -326,9 +326,9 @@ pub record EventsAreWorked : Type 0 where
   pub last_sample : exceeds (system_of 2 (event_pair [])) TopScope (repeat 2047 (form.Sample (port (codes "a") (codes "p")) ∷ []))
       (form.Sample (port (codes "a") (codes "p")))
       ≡ false
-  -- 17: the zero that `absent` becomes is deeper by one where its type is `Fixed 0`
+  -- 17: the zero that `absent` becomes is deeper by one where its type is `Fixed 0`.
   pub absent_at_32 : is_deep_event types.Int64 (gaps 31) ≡ false
   pub fixed_0_at_32 : is_deep_event (types.Fixed 0) (gaps 31) ≡ true
-  -- 22: an event input is not assigned; 24: a need is named twice
+  -- 22: an event input is not assigned. 24: two needs have the same name.
   pub event_assigned : Refused2 (run_of (input_e ∷ parts.Step (set (codes "e") one ∷ []) ∷ [])) 22 5
   pub needed_twice : Refused2 (run_of (input_e ∷ output_p (codes "e" ∷ codes "e" ∷ []) one ∷ [])) 24 4

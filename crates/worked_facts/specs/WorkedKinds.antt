@@ -1,4 +1,4 @@
--- Worked kinds and costs: what expressions and step lines have by hand.
+-- Worked kinds and costs of expressions and step lines.
 use Rattle.std.specs.Prelude.{◌≡◌, Bool, true, false, [], ◌∷◌, codes, if◌then◌else◌, Option, Some, None, pos}
 use Rattle.std.specs.Str.{bytes_eq}
 use Rattle.fixed_words.specs.declared.types.Kind.{Kind}
@@ -49,7 +49,7 @@ kind_here e = kind_of_expression e declared_kinds
 abbrev pub is_kinded_here : Line → Bool
 is_kinded_here l = lines_are_kinded (l ∷ []) declared_kinds
 
--- What operations give.
+-- The kinds of the results of operations.
 pub record KindsAreWorked : Type 0 where
   pub sum : kind_here (expr.Binary by.Add n one) ≡ Some Int
   pub product : kind_here (expr.Binary by.Mul x x) ≡ Some (Fixed 2)
@@ -62,8 +62,8 @@ pub record KindsAreWorked : Type 0 where
   pub clamped : kind_here (expr.Clamp x x x) ≡ Some (Fixed 2)
   pub chosen : kind_here (expr.Choose (expr.Unary of.Not p) n one) ≡ Some Int
 
--- An operation gives nothing where an operand is of a kind that it does not take, or of another kind than its
--- partner, and so does what it stands in. A name that is not declared has no kind either.
+-- An operation has no kind where an operand is of a kind that it does not take, or of another kind than the other operand. Then the
+-- expression around it has none either. A name that is not declared has no kind.
 pub record WrongKindsAreWorked : Type 0 where
   pub sum_of_other_decimals : kind_here (expr.Binary by.Add x half) ≡ None
   pub sum_of_truths : kind_here (expr.Binary by.Add p p) ≡ None
@@ -85,7 +85,7 @@ pub record WrongKindsAreWorked : Type 0 where
   pub undeclared : kind_here (expr.Var (codes "y")) ≡ None
   pub wrong_inside : kind_here (expr.Binary by.Add one (expr.Binary by.Slash n n)) ≡ None
 
--- Which step lines have the right kinds.
+-- The step lines that have the right kinds.
 pub record LineKindsAreWorked : Type 0 where
   pub assignment_of_int_to_fixed : is_kinded_here (line.Assign (codes "x") one) ≡ false
   pub assignment_to_undeclared : is_kinded_here (line.Assign (codes "y") one) ≡ false

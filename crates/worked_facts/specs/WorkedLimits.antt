@@ -26,11 +26,11 @@ step_of_a = StepScope (unit_of (codes "A") counts)
 abbrev pub connection : LineForm
 connection = form.Connect (record { from = port (codes "a") (codes "y"); to = port (codes "b") (codes "u") })
 
--- A system that says nothing: it has none of the names on these lines, so none of their ports is one of events.
+-- An empty system: it has none of the names on these lines, so none of their ports is an event port.
 abbrev pub no_system : System
 no_system = bare_system 1
 
--- So many lines like this one may stand in the scope, and not one more.
+-- The scope may have so many lines like this one, and not one more.
 pub record MayBe (limit : ℕ) (scope : Scope) (some : LineForm) : Type 0 where
   pub last : exceeds no_system scope (repeat (limit - 1) (some ∷ [])) some ≡ false
   pub first_too_many : exceeds no_system scope (repeat limit (some ∷ [])) some ≡ true
@@ -51,11 +51,11 @@ pub record LimitsAreWorked : Type 0 where
   pub inputs : MayBe 32 in_a (form.Input (record { name = codes "u"; ty = types.Int64; start = number 0 }))
   pub outputs : MayBe 32 in_a (form.Output (record { name = codes "y"; ty = types.Int64; needs = []; value = one }))
   pub step_lines : MayBe 500 step_of_a form.End
-  -- the depth of an expression on a step line
+  -- The depth of an expression on a step line.
   pub depth_33_in_if : has_deep_expression no_system step_of_a (form.If (minuses 32)) ≡ true
-  -- others do not count
+  -- Other lines do not count.
   pub only_alike : exceeds no_system TopScope (repeat 64 (connection ∷ []) ++ repeat 63 (form.Unit (codes "A") ∷ [])) (form.Unit (codes "B")) ≡ false
-  -- numbers on a line
+  -- Numbers on a line.
   pub resolutions : AreCountsInRange (form.Resolution 0) × AreCountsInRange (form.Resolution 9) × (AreCountsInRange (form.Resolution 10) → ⊥)
   pub repeats : AreCountsInRange (form.Repeat 1) × AreCountsInRange (form.Repeat 1000) × (AreCountsInRange (form.Repeat 0) → ⊥)
       × (AreCountsInRange (form.Repeat 1001) → ⊥)
@@ -64,17 +64,17 @@ pub record LimitsAreWorked : Type 0 where
       × (AreCountsInRange (form.Rows 100001) → ⊥)
   pub decimals : AreCountsInRange (form.Local (record { name = codes "x"; ty = types.Fixed 9 }))
       × (AreCountsInRange (form.Local (record { name = codes "x"; ty = types.Fixed 10 })) → ⊥)
-  -- words
+  -- Words.
   pub longest_word : IsWord (repeat 32 (codes "a"))
   pub too_long_word : IsWord (repeat 33 (codes "a")) → ⊥
   pub digit_first : IsWord (codes "1a") → ⊥
   pub underscore_first : IsWord (codes "_1")
-  -- literals, and numbers of seconds
+  -- Literals, and numbers of seconds.
   pub least_literal : is_word_literal (literal.Number (neg_ℤ (pos 9223372036854775808)) 0) ≡ true
   pub too_great_literal : is_word_literal (literal.Number (pos 9223372036854775808) 0) ≡ false
   pub greatest_seconds : is_seconds (literal.Number (pos 9223372036854775807) 9) ≡ true
   pub negative_seconds : is_seconds (literal.Number (neg_ℤ (pos 1)) 0) ≡ false
   pub true_seconds : is_seconds (literal.Truth true) ≡ false
-  -- blocks in each other
+  -- Blocks in each other.
   pub block_depth : line_depth (blocks 16) ≡ 16
   pub depth_of_else : line_depth (line.If (expr.Truth true) [] (Some (blocks 2 ∷ []))) ≡ 3

@@ -57,14 +57,14 @@ connect from output to input = parts.Connects (record {
   to = record { instance = to; port = input };
 })
 
--- A stand of some number at a point, with these states and these words of all outputs.
+-- A stand with this number at a point, with these states and these words of all outputs.
 abbrev pub stand : ℕ → ℕ → ℕ → List (List ℤ) → List ℤ → Stand
 stand number t n states words = record {
   at = record { point = record { t = t; n = n }; states = states; number = number };
   ports = map Some words;
 }
 
--- The stands are the trace of the system that the parts say, and it ends so.
+-- The stands are the trace of the system with these parts, and it ends in this way.
 abbrev pub RunsTo : List Part → List Stand → Ending → Type 0
 RunsTo all stands ending = IsTrace (composition_of (system_of 1 all)) stands ending
 
@@ -102,7 +102,7 @@ counted k = stand k k 0 (one k) (pos k ∷ [])
 abbrev pub waiting : ℕ → Stand
 waiting k = stand k 0 k (one k) (pos k ∷ [])
 
--- A state that is counted out of its type's range, and one out of that of all words.
+-- A state that is counted out of the range of its type, and one out of the range of all words.
 abbrev pub greatest : ℕ
 greatest = 9223372036854775807
 
@@ -119,7 +119,7 @@ pub record CountersAreWorked : Type 0 where
       (UnitFault 0 place.Step fault.Overflow)
   pub negative_max : RunsTo (counts (parts.Max (expr.Unary of.Neg (number 1)) ∷ []) until_three) (counted 0 ∷ []) (UnitFault 0 place.Max fault.Max)
 
--- ---- A ring of members that is no ring of outputs: the one's state is the other's input
+-- ---- A ring of members that is no ring of outputs: the state of one is the input of the other
 
 abbrev pub ring : List Part
 ring =
@@ -176,7 +176,7 @@ divided = record {
   ports = None ∷ Some (pos 0) ∷ None ∷ [];
 }
 
--- ---- A member whose step divides by what another one shows
+-- ---- A member whose step divides by the output of another one
 
 abbrev pub follows : List Part
 follows =
@@ -216,7 +216,7 @@ at_most_c =
     ∷ accepts (expr.Binary by.Min expr.Step (expr.Var (codes "c")))
     ∷ [])
 
--- A unit that accepts 3 of a step of 4.
+-- A unit that accepts 3 ticks of a step of 4.
 abbrev pub fewer_of_four : Part
 fewer_of_four =
     parts.HasUnit (codes "G") (
@@ -424,7 +424,7 @@ heater =
     ∷ parts.Longest (whole 60)
     ∷ []
 
--- Number, time, temperature, whether the heater is on, its power, and the battery's charge.
+-- A stand, by number, time, temperature, whether the heater is on, its power, and the battery's charge.
 abbrev pub heated : ℕ → ℕ → ℕ → ℕ → ℕ → ℕ → Stand
 heated k t temp lit power charge =
     stand k t 0 ((pos temp ∷ []) ∷ (pos lit ∷ []) ∷ [] ∷ (pos charge ∷ []) ∷ []) (pos temp ∷ pos lit ∷ pos power ∷ pos charge ∷ [])

@@ -89,7 +89,7 @@ stop = parts.Stop (number 3)
 abbrev pub lines_of_system : System → List (List ℕ)
 lines_of_system system = map line_text (canonical_forms system)
 
--- A thermostat, whose parts stand in another order than the canonical one.
+-- A thermostat, whose parts are in another order than the canonical one.
 abbrev pub thermostat : List Part
 thermostat =
     stop
@@ -159,7 +159,7 @@ Accepted all = refusal_of (system_of 1 all) ≡ None
 abbrev pub run_of : List UnitPart → List Part
 run_of inside = unit_a inside ∷ instance (codes "a") ∷ stop ∷ []
 
--- So many prefix `-` in front of `n`.
+-- So many prefix `-` before `n`.
 abbrev pub minuses : ℕ → Expr
 minuses zero = n
 minuses (suc count) = expr.Unary of.Neg (minuses count)
@@ -197,37 +197,37 @@ choosing_scopes =
 
 pub record SystemsAreWorked : Type 0 where
   pub thermostat_is : lines_of_system (system_of 1 thermostat) ≡ thermostat_lines
-  -- the lines of a text, by number, in canonical order
+  -- The lines of a text, by number, in canonical order.
   pub step_first : in_canonical_order {A = ℕ} (a_to_b ∷ unit_a (choosing ++ counts) ∷ a_to_b ∷ []) (1 ∷ 2 ∷ 3 ∷ 4 ∷ 5 ∷ 6 ∷ 7 ∷ 8 ∷ 9 ∷ 10 ∷ 11 ∷ 12 ∷ [])
       ≡ 1 ∷ 3 ∷ 9 ∷ 10 ∷ 4 ∷ 5 ∷ 6 ∷ 7 ∷ 8 ∷ 11 ∷ 2 ∷ 12 ∷ []
-  -- the scope of each line
+  -- The scope of each line.
   pub scopes : map (λ site. site.scope) (sites_of (system_of 1 (run_of choosing))) ≡ choosing_scopes
-  -- 8: the second of two equal names, in canonical order
+  -- 8: the second of two equal names, in canonical order.
   pub equal_units : Refused (unit_a counts ∷ run_of counts) 8 6
   pub equal_instances : Refused (instance (codes "a") ∷ run_of counts) 8 8
   pub equal_names : Refused (run_of (output_y types.Int64 [] n ∷ parts.HasState (record { name = codes "y"; ty = types.Int64; start = number 0 }) ∷ [])) 8 4
-  -- 9: names that are not there, or may not be used there
+  -- 9: names that do not exist, or are not allowed there.
   pub local_in_max : Refused (run_of (parts.HasLocal (record { name = codes "n"; ty = types.Int64 }) ∷ parts.Max n ∷ [])) 9 4
   pub output_in_step : Refused (run_of (counts ++ (parts.Step (set (codes "n") (expr.Var (codes "y")) ∷ []) ∷ []))) 9 6
   pub no_such_need : Refused (run_of (output_y types.Int64 (codes "u" ∷ []) one ∷ [])) 9 3
   pub no_such_unit : Refused (instance (codes "a") ∷ stop ∷ []) 9 2
   pub no_such_param : Refused (unit_a counts ∷ instance_with (codes "a") (record { name = codes "n"; value = number 1 } ∷ []) ∷ stop ∷ []) 9 7
   pub from_an_input : Refused (pair_with (wire (port (codes "a") (codes "u")) (port (codes "b") (codes "u")) ∷ [])) 9 10
-  -- 10: kinds, and forms of literals
+  -- 10: kinds, and forms of literals.
   pub fixed_with_int : Refused (run_of (state_n (types.Fixed 1) (number 0) ∷ output_y (types.Fixed 1) [] (sum n one) ∷ [])) 10 4
   pub bool_output : Refused (run_of (state_n types.Int64 (number 0) ∷ output_y types.Bool [] n ∷ [])) 10 4
   pub decimals_of_int : Refused (run_of (state_n types.Int8 (literal.Number (pos 10) 1) ∷ [])) 10 3
   pub number_as_condition : Refused (run_of (counts ++ (parts.Step (line.If n [] None ∷ []) ∷ []))) 10 6
   pub truth_for_a_param : Refused (run_of (param_k types.Int64 (number 1) ∷ parts.Step (set (codes "k") (expr.Truth true) ∷ []) ∷ [])) 10 5
-  -- 11: ranges of types
+  -- 11: ranges of types.
   pub one_above_int8 : Refused (run_of (state_n types.Int8 (number 128) ∷ [])) 11 3
   pub least_int8 : Accepted (run_of (state_n types.Int8 (literal.Number (neg_ℤ (pos 128)) 0) ∷ []))
   pub scaled_too_great : Refused (run_of (state_n (types.Fixed 1) (number 9223372036854775807) ∷ [])) 11 3
-  -- 12 to 14: needs and connections
+  -- 12 to 14: needs and connections.
   pub hidden_need : Refused (run_of (input_u ∷ output_y types.Int64 [] u ∷ [])) 12 4
   pub connected_twice : Refused (pair_with (a_to_b ∷ a_to_b ∷ [])) 13 11
   pub other_type : Refused (unit_a (input_u ∷ output_y types.Int32 [] one ∷ []) ∷ instance (codes "a") ∷ instance (codes "b") ∷ a_to_b ∷ stop ∷ []) 14 10
-  -- 17: the depth of a tree, a leaf counted
+  -- 17: the depth of a tree, counting a leaf.
   pub depth_32 : Accepted (run_of (state_n types.Int64 (number 0) ∷ output_y types.Int64 [] (minuses 31) ∷ []))
   pub depth_33 : Refused (run_of (state_n types.Int64 (number 0) ∷ output_y types.Int64 [] (minuses 32) ∷ [])) 17 4
   -- 19 to 24
@@ -244,12 +244,12 @@ pub record SystemsAreWorked : Type 0 where
       ∷ instance_with (codes "a") (record { name = codes "k"; value = number 1 } ∷ record { name = codes "k"; value = number 1 } ∷ []) ∷ stop ∷ []) 24 7
   pub sampled_twice : Refused (parts.Samples (port (codes "a") (codes "y")) ∷ parts.Samples (port (codes "a") (codes "y")) ∷ run_of counts) 24 10
   pub needed_twice : Refused (run_of (input_u ∷ output_y types.Int64 (codes "u" ∷ codes "u" ∷ []) u ∷ [])) 24 4
-  -- 9: clocks and variables of their names, which no text can tell apart, are two things
+  -- 9: clocks and variables with their names are two things, though no text distinguishes them.
   pub time_by_param : Refused
       (run_of (parts.HasParam (record { name = codes "t"; ty = types.Int64; start = number 1 }) ∷ output_y types.Int64 [] expr.Time ∷ [])) 9 4
   pub step_by_state : Refused (run_of (parts.HasState (record { name = codes "h"; ty = types.Int64; start = number 1 }) ∷ parts.Max expr.Step ∷ [])) 9 4
   pub variable_t : Refused (run_of (parts.Max (expr.Var (codes "t")) ∷ [])) 9 3
-  -- 9: where clocks and locals stand, and the other places of names
+  -- 9: where clocks and locals are allowed, and the other places of names.
   pub time_in_max : Accepted (run_of (parts.Max expr.Time ∷ []))
   pub clocks_in_step : Accepted (run_of (counts ++ (parts.Step (set (codes "n") expr.Time ∷ set (codes "n") expr.Step ∷ []) ∷ [])))
   pub local_in_step : Accepted (run_of (parts.HasLocal (record { name = codes "n"; ty = types.Int64 }) ∷ parts.Step (set (codes "n") n ∷ []) ∷ []))
@@ -258,7 +258,7 @@ pub record SystemsAreWorked : Type 0 where
   pub no_such_target : Refused (run_of (parts.Step (set (codes "p") one ∷ []) ∷ [])) 9 4
   pub to_an_output : Refused (pair_with (wire (port (codes "a") (codes "y")) (port (codes "b") (codes "y")) ∷ [])) 9 10
   pub input_sampled : Refused (pair_with (parts.Samples (port (codes "a") (codes "u")) ∷ [])) 9 11
-  -- 10 and 11: the other places of kinds and of literals
+  -- 10 and 11: the other places of kinds and of literals.
   pub fixed_max : Refused (run_of (state_n (types.Fixed 1) (number 0) ∷ parts.Max n ∷ [])) 10 4
   pub truth_accepted : Refused (run_of (parts.Step (line.Accept (expr.Truth true) ∷ []) ∷ [])) 10 4
   pub fixed_0_and_int : Refused (run_of (state_n (types.Fixed 0) (number 0) ∷ output_y (types.Fixed 0) [] one ∷ [])) 10 4
@@ -267,7 +267,7 @@ pub record SystemsAreWorked : Type 0 where
       (unit_a (param_k types.Int64 (number 1) ∷ []) ∷ instance_with (codes "a") (record { name = codes "k"; value = literal.Truth true } ∷ []) ∷ stop ∷ []) 10 6
   pub form_of_an_input : Refused (run_of (parts.HasInput (record { name = codes "u"; ty = types.Int64; start = literal.Truth true }) ∷ [])) 10 3
   pub range_of_a_param : Refused (run_of (param_k types.UInt8 (literal.Number (neg_ℤ (pos 1)) 0) ∷ [])) 11 3
-  -- 18 to 24: the other places and the ends of ranges
+  -- 18 to 24: the other places and the ends of ranges.
   pub cost_100000 : Accepted
       (run_of (counts ++ (parts.Step (line.Repeat 1000 (line.Repeat 94 [] ∷ set (codes "n") n ∷ []) ∷ line.Repeat 997 [] ∷ line.Repeat 999 [] ∷ []) ∷ [])))
   pub cost_100001 : Refused
@@ -289,14 +289,14 @@ y_of name = port name (codes "y")
 abbrev pub joins : List ℕ → List ℕ → Part
 joins from to = wire (y_of from) (port to (codes "u"))
 
--- Two instances whose outputs need each other, and a third one in front of them that needs the first.
+-- Two instances whose outputs need each other, and before them a third one that needs the first.
 abbrev pub ring : List Part
 ring = pair_with (joins (codes "a") (codes "b") ∷ joins (codes "b") (codes "a") ∷ [])
 
 abbrev pub behind_ring : List Part
 behind_ring = instance (codes "c") ∷ joins (codes "a") (codes "c") ∷ ring
 
--- The same two, whose outputs need nothing: the instances form a ring, and their ports do not.
+-- The same two, with outputs that need nothing: the instances form a ring, and their ports do not.
 abbrev pub ring_of_instances : List Part
 ring_of_instances =
     unit_a (input_u ∷ output_y types.Int64 [] one ∷ []) ∷ instance (codes "a") ∷ instance (codes "b") ∷ joins (codes "a") (codes "b")

@@ -1,4 +1,4 @@
--- Worked texts of the whole language: what system each says, or at which line and by which rule it is refused.
+-- Worked texts of the whole language: the system of each, or the line and the rule by which it is refused.
 use Rattle.std.specs.Prelude.{ℕ, List, [], ◌∷◌, ◌++◌, codes, pos, neg_ℤ, true, false, Some, None}
 use Rattle.std.specs.List.{flat_map, repeat}
 use Rattle.fixed_words.specs.declared.types.Literal.TheVariants as literal
@@ -21,11 +21,11 @@ use Rattle.unit_tree.specs.declared.unit.Unit.{Unit}
 abbrev pub text_of : List (List ℕ) → List ℕ
 text_of lines = flat_map (λ line. line ++ (10 ∷ [])) lines
 
--- A CR behind a line.
+-- A line with a CR after it.
 abbrev pub returned : List ℕ → List ℕ
 returned line = line ++ (13 ∷ [])
 
--- ---- Texts that say a system
+-- ---- Texts that have a system
 
 -- The counter of the worked trace, with ends by CR and LF, comments, blank lines, indentation and needless zeros.
 abbrev pub commented_counter : List ℕ
@@ -46,7 +46,7 @@ commented_counter = text_of (
     ∷ [])
     ++ codes "longest 1"
 
--- Parts in another order than the canonical one; a literal `-0`, whose sign is lost; needs; a decimal number.
+-- Parts in another order than the canonical one, a literal `-0`, whose sign is lost, needs, and a decimal number.
 abbrev pub thermal_unit : Unit
 thermal_unit = record {
   name = codes "A";
@@ -174,8 +174,8 @@ mode_text = text_of (
     ∷ codes "longest 9223372036854775807"
     ∷ [])
 
--- A text of version 2: event ports, of which one is present and absent by its expression. The event output stands before the
--- event input, which comes first in canonical order.
+-- A text of version 2 with event ports. An expression makes one of them present or absent. The event output comes before the event
+-- input, which is first in canonical order.
 abbrev pub relay_text : List ℕ
 relay_text = text_of (
     []
@@ -223,39 +223,39 @@ relay = record {
   samples = [];
 }
 
--- A letter so many times.
+-- A letter, so many times.
 abbrev pub letters : ℕ → List ℕ
 letters count = repeat count (codes "a")
 
--- A line of a thousand bytes, of which the last is the first of two CR: in a comment it may stay.
+-- A line of a thousand bytes, the last of which is the first of two CR: in a comment it is allowed.
 abbrev pub long_line_text : List ℕ
 long_line_text = text_of (returned (codes "cosim 1#" ++ letters 991 ++ (13 ∷ [])) ∷ [])
 
 pub record TextsAreRead : Type 0 where
   pub counter_is_read : Reads commented_counter counter
-  -- the lines of the text that the canonical lines came from, where its parts stand in another order
+  -- The lines of the text that the canonical lines came from, where its parts are in another order.
   pub thermal_is_read : ReadsFrom thermal_text thermal (1 ∷ 5 ∷ 10 ∷ 9 ∷ 8 ∷ 7 ∷ 6 ∷ 11 ∷ 14 ∷ 15 ∷ 16 ∷ 13 ∷ 3 ∷ 4 ∷ 12 ∷ 2 ∷ [])
   pub mode_is_read : Reads mode_text mode
   pub long_line_is_read : Reads long_line_text (bare_system 1)
   pub relay_is_read : ReadsFrom relay_text relay (2 ∷ 3 ∷ 5 ∷ 4 ∷ 6 ∷ 7 ∷ [])
-  -- the counter has a canonical text, and it is read back
+  -- The counter has a canonical text, and it is read back.
   pub counter_is_printable : IsPrintable counter
   pub canonical_is_read : Reads (canonical_text counter) counter
 
 -- ---- Texts that are refused
 
 pub record TextsAreRefused : Type 0 where
-  -- 2: a LF is counted that the last line lacks
+  -- 2: the LF that the last line lacks is counted.
   pub long_text : IsRefused (letters 1048576) 1 2
-  -- 7 at line 1 where there is nothing but blank lines
+  -- 7 at line 1 where there are only blank lines.
   pub empty : IsRefused [] 1 7
   pub blank : IsRefused (text_of ([] ∷ codes "# nothing" ∷ [])) 1 7
-  -- 1: a byte that code may not hold; a second CR is one
+  -- 1: a byte that is not allowed in code; a second CR is one.
   pub forbidden : IsRefused (200 ∷ []) 1 1
   pub two_returns : IsRefused (text_of (returned (returned (codes "cosim 1")) ∷ [])) 1 1
-  -- 3: more than 1,000 bytes without the end
+  -- 3: more than 1,000 bytes without the end.
   pub long_line : IsRefused (text_of ((codes "cosim 1#" ++ letters 993) ∷ [])) 1 3
-  -- 4: no form; a number that goes on as a word, and the header with decimals
+  -- 4: no form; a number that continues as a word, and the header with decimals.
   pub hello : IsRefused (codes "hello") 1 4
   pub two_ends : IsRefused (codes "end end") 1 4
   pub number_word : IsRefused (codes "1a") 1 4
@@ -264,15 +264,15 @@ pub record TextsAreRefused : Type 0 where
   pub ten_decimals : IsRefused (codes "0.0000000001") 1 4
   pub above_all_numbers : IsRefused (codes "9223372036854775809") 1 4
   pub bare_point : IsRefused (codes "1.") 1 4
-  -- 4: a form of version 2 in a text of version 1, its header among them
+  -- 4: a form of version 2 in a text of version 1, also its header.
   pub later_version : IsRefused (text_of (codes "cosim 1" ∷ codes "cosim 2" ∷ [])) 2 4
   pub event_of_version_1 : IsRefused (text_of (codes "cosim 1" ∷ codes "unit A" ∷ codes "event input e : Int64" ∷ codes "end" ∷ [])) 3 4
   pub third_version : IsRefused (codes "cosim 3") 1 4
-  -- 5 before 7: a form that may not stand there
+  -- 5 before 7: a form that is not allowed there.
   pub stray_end : IsRefused (codes "end") 1 5
   pub second_header : IsRefused (text_of (codes "cosim 1" ∷ codes "cosim 1" ∷ [])) 2 5
   pub earlier_version : IsRefused (text_of (codes "cosim 2" ∷ codes "cosim 1" ∷ [])) 2 5
-  -- 7: another form than the header first
+  -- 7: another form than the header comes first.
   pub no_header : IsRefused (text_of ([] ∷ codes "unit A" ∷ [])) 2 7
-  -- 6: a block is open at the end, at the last line, which may be blank
+  -- 6: a block is open at the end, at the last line, which may be blank.
   pub unended : IsRefused (text_of (codes "cosim 1" ∷ codes "unit A" ∷ [] ∷ [])) 3 6

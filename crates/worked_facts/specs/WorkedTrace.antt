@@ -1,4 +1,4 @@
--- The text of a trace, worked out by hand: a pulse occurs at every other step, and a tally shows the sum of the pulses before.
+-- The text of a trace, worked out by hand: a pulse occurs at every other step, and a tally has the sum of the pulses before.
 use Rattle.std.specs.Prelude.{◌≡◌, ℕ, true, false, pos, List, [], ◌∷◌, ◌++◌, codes}
 use Rattle.fixed_words.specs.declared.types.Ty.TheVariants as types
 use Rattle.trace_csv.specs.Columns.{columns_of}
@@ -11,18 +11,18 @@ use Rattle.worked_facts.specs.WorkedSystems.{port}
 use Rattle.unit_tree.specs.declared.system.Column.{Column}
 use Rattle.unit_tree.specs.declared.system.System.{System}
 
--- All outputs are shown, and none but the tally.
+-- A system that shows all outputs, and one that shows only the tally.
 abbrev pub pulses : System
 pulses = system_of 2 pulse_and_tally
 
 abbrev pub tally_alone : System
 tally_alone = system_of 2 (pulse_and_tally ++ (parts.Samples (port (codes "c") (codes "k")) ∷ []))
 
--- Both, the tally before the pulse.
+-- Both are shown, the tally before the pulse.
 abbrev pub tally_first : System
 tally_first = system_of 2 (pulse_and_tally ++ (parts.Samples (port (codes "c") (codes "k")) ∷ parts.Samples (port (codes "p") (codes "e")) ∷ []))
 
--- The pulse is the second of two places, and the tally the third.
+-- The pulse has the second of two places, and the tally the third.
 abbrev pub pulse_column : Column
 pulse_column = record { instance = 0; output = 1; place = 1; ty = types.Int64; event = true }
 

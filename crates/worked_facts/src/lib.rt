@@ -1,8 +1,8 @@
-//! Small cases that were worked out by hand, and that the definitions give.
+//! Small cases that were worked out by hand, and for which the definitions give the same.
 //!
-//! Nothing stands on this crate. It keeps the definitions honest: those of the language and of runs (`unit_tree`), of texts
-//! and of the lines of a trace (`trace_csv`) are computed on texts, expressions, systems and runs whose meaning was worked
-//! out without them. Each file of `specs/` states the cases of one subject.
+//! No crate depends on this one. It tests the definitions: those of the language and of runs (`unit_tree`), of texts and of the lines
+//! of a trace (`trace_csv`). It computes them for texts, expressions, systems and runs whose meaning was worked out without them. Each
+//! file of `specs/` has the cases of one subject.
 #![tactic(auto)]
 
 mod language;

@@ -1,6 +1,6 @@
 ghost use Rattle.worked_facts.specs.WorkedRuns.{CountersAreWorked, PortsAreWorked, StepsAreWorked, HeaterIsWorked};
 
-/// Traces worked out by hand are those that the definitions give.
+/// A law: by the definitions, traces are those that were worked out by hand.
 pub fn runs_are_worked()
     ensures counters { CountersAreWorked }
     ensures ports { PortsAreWorked }

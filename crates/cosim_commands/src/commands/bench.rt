@@ -1,5 +1,4 @@
-//! The command `bench`, in three steps: the plan of the generated system, its run, whose rows nobody keeps, and the figures of its
-//! trace.
+//! The command `bench`, in three steps: the plan of the generated system, its run, whose rows are dropped, and the figures of its trace.
 ghost use Rattle.std.specs.Prelude.{◌≡◌, ℕ, List, ◌++◌, codes, IfOk, OnOk};
 ghost use Rattle.cosim_call.specs.Coming.{Makes};
 ghost use Rattle.cosim_answers.specs.Answer.{Answers};
@@ -29,11 +28,11 @@ const AHEAD: Ahead = Ahead {
     policy: Policy::Hold,
 };
 
-/// The generated system, judged: no rule refuses it.
+/// Returns the generated system, judged: no rule refuses it.
 fn judged(alloc: Global, asked: &Generation) -> Result<Checked, AllocError>
     ensures { IfOk result (λ checked. checked ≡ system_asked asked.now) }
 {
-    // That there is such a system is known by the clauses of this call alone.
+    // Called for its clauses, which state that there is such a system.
     let _ = asked.instances();
     match check(alloc, asked.system(alloc)?) {
         Ok(checked) => Ok(checked),
@@ -42,7 +41,7 @@ fn judged(alloc: Global, asked: &Generation) -> Result<Checked, AllocError>
     }
 }
 
-/// The plan of the generated system, whose outputs have an order.
+/// Returns the plan of the generated system, whose outputs have an order.
 fn plan_of(alloc: Global, asked: &Generation) -> Result<Plan, AllocError>
     ensures { IfOk result (λ plan. plan.system ≡ system_asked asked.now) }
 {
@@ -78,7 +77,7 @@ fn put_point(text: &mut Vec<u8>, point: Point) -> Result<(), AllocError>
     )
 }
 
-/// The figures that a run of so many components reports of its trace.
+/// Returns the figures of a trace, from the report of a run of so many components.
 fn figures(alloc: Global, instances: u32, report: Report) -> Result<Vec<u8>, AllocError>
     ensures { IfOk result (λ text. text.items ≡ figures_text instances report.rows report.last report.sum) }
 {
@@ -91,7 +90,7 @@ fn figures(alloc: Global, instances: u32, report: Report) -> Result<Vec<u8>, All
     Ok(text)
 }
 
-/// What is put, whatever the input: the figures of the trace of the generated system, which is run in the calling thread.
+/// Returns what is written, for any input: the figures of the trace of the generated system, which is run in the calling thread.
 pub(crate) fn make(alloc: Global, asked: &Generation) -> Result<Vec<u8>, Stopped>
     ensures { (text : List ℕ) → Makes (Answers (Bench asked.now) text) result }
 {

@@ -7,7 +7,7 @@ use crate::commands::accept;
 use cosim_call::Stopped;
 use std::alloc::Global;
 
-/// What is put of a text: that it is accepted.
+/// Returns what is written for a text: that it is accepted.
 pub(crate) fn make(alloc: Global, text: &[u8]) -> Result<Vec<u8>, Stopped>
     ensures { Makes (Answers Check text.now) result }
 {

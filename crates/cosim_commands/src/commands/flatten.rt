@@ -1,5 +1,5 @@
-//! The command `flatten`, in three steps: the nest that the text says, the canonical text of its flat system, and whether this keeps all
-//! rules of the language.
+//! The command `flatten`, in three steps: the nest of the text, the canonical text of its flat system, and whether this keeps all rules
+//! of the language.
 ghost use Rattle.command_line.specs.declared.commands.Command.TheVariants.{Flatten};
 ghost use Rattle.cosim_answers.specs.Answer.{Answers};
 ghost use Rattle.cosim_answers.specs.Serving.{FindsFlat, FindsNest};
@@ -13,7 +13,7 @@ use nest_text::{Nest, NestFault, read_nest};
 use std::alloc::Global;
 use sub_flat::into_flat;
 
-/// The nest that a text says.
+/// Returns the nest of a text, or the text's refusal.
 fn nest_in(alloc: Global, text: &[u8]) -> Result<Nest, Stopped>
     ensures { FindsNest text.now result }
 {
@@ -24,7 +24,7 @@ fn nest_in(alloc: Global, text: &[u8]) -> Result<Nest, Stopped>
     }
 }
 
-/// The canonical text of the flat system of a nest.
+/// Returns the canonical text of the flat system of a nest, or the refusal of the nest.
 fn flat_text(alloc: Global, nest: Nest) -> Result<Vec<u8>, Stopped>
     requires { length nest.lines ≡ length nest.groups }
     ensures { FindsFlat nest result }
@@ -36,7 +36,7 @@ fn flat_text(alloc: Global, nest: Nest) -> Result<Vec<u8>, Stopped>
     }
 }
 
-/// What is put of a nested text: the canonical text of its flat system.
+/// Returns what is written for a nested text: the canonical text of its flat system.
 #[inline(never)]
 pub(crate) fn make(alloc: Global, text: &[u8]) -> Result<Vec<u8>, Stopped>
     ensures { Makes (Answers Flatten text.now) result }

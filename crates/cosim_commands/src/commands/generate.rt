@@ -1,4 +1,4 @@
-//! The command `gen`, whose word is a keyword and so names no module.
+//! The command `gen`. Its word is a keyword, so the module has another name.
 ghost use Rattle.std.specs.Prelude.{ℕ, List};
 ghost use Rattle.cosim_call.specs.Coming.{Makes};
 ghost use Rattle.cosim_answers.specs.Answer.{Answers};
@@ -9,7 +9,7 @@ use command_line::Generation;
 use cosim_call::Stopped;
 use std::alloc::Global;
 
-/// What is put, whatever the input: the canonical text of the generated system.
+/// Returns what is written, for any input: the canonical text of the generated system.
 pub(crate) fn make(alloc: Global, asked: &Generation) -> Result<Vec<u8>, Stopped>
     ensures { (text : List ℕ) → Makes (Answers (Gen asked.now) text) result }
 {

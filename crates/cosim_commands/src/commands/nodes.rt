@@ -1,5 +1,5 @@
-//! The command `nodes`, in four steps: the plan of the text's system, whether it is small enough, the rounds of two nodes, and how far
-//! these came.
+//! The command `nodes`, in four steps: the plan of the text's system, whether it is small enough, the rounds of two nodes, and their
+//! progress.
 ghost use Rattle.std.specs.Prelude.{◌≡◌, nat_le};
 ghost use Rattle.cosim_call.specs.Calls.{stream};
 ghost use Rattle.cosim_call.specs.Coming.{Serves};
@@ -22,10 +22,10 @@ use trace_core::Plan;
 use trace_rows::CrewFault;
 use unit_tree::Ending;
 
-/// How many words its rows may have, or how many instances these, at most.
+/// The greatest number of words in the rows of a trace, and of instances times rows.
 const LARGEST: u64 = 1_000_000;
 
-/// Whether a plan is small enough.
+/// Returns whether a plan is small enough.
 fn is_small(plan: &Plan) -> bool
     ensures { result ≡ nat_le (size_for_nodes plan.now.run) nodes_limit }
 {
@@ -37,7 +37,7 @@ fn is_small(plan: &Plan) -> bool
     }
 }
 
-/// Has two nodes make their rounds.
+/// Lets two nodes make their rounds.
 fn run_pair<O: Sink>(
     alloc: Global,
     plan: &Arc<Plan>,
@@ -54,7 +54,7 @@ fn run_pair<O: Sink>(
     }
 }
 
-/// The status by how node 0 ended, where it did.
+/// Returns the status, by how node 0 ended, where it did.
 fn status_of(outcome: Option<Ending>) -> Status
     ensures { result ≡ node_status outcome }
 {
@@ -64,7 +64,7 @@ fn status_of(outcome: Option<Ending>) -> Status
     }
 }
 
-/// What is told of two nodes that made their rounds: the status, how node 0 ended, and how far they are.
+/// Returns the report of two nodes that made their rounds: the status, how node 0 ended, and their progress.
 fn told(alloc: Global, plan: &Plan, nodes: Nodes) -> Result<Served, Stopped>
     ensures { TellsRounds plan.now.system nodes result }
 {

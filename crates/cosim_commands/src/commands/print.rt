@@ -12,7 +12,7 @@ use std::alloc::Global;
 use unit_print::print_system;
 use unit_tree::System;
 
-/// The canonical text of a system.
+/// Returns the canonical text of a system.
 #[tactic(auto, unfolding(cosim_answers::specs::Accepted::printed_text))]
 pub(crate) fn canonical(alloc: Global, system: &System) -> Result<Vec<u8>, NoMemory>
     ensures { IfOk result (λ text. text.items ≡ printed_text system.now) }
@@ -22,7 +22,7 @@ pub(crate) fn canonical(alloc: Global, system: &System) -> Result<Vec<u8>, NoMem
     Ok(text)
 }
 
-/// What is put of a text: the canonical text of its system.
+/// Returns what is written for a text: the canonical text of its system.
 pub(crate) fn make(alloc: Global, text: &[u8]) -> Result<Vec<u8>, Stopped>
     ensures { Makes (Answers Print text.now) result }
 {

@@ -1,4 +1,5 @@
-//! The command `replay`: what `run` puts, by a world whose workers do what a seed draws, and one line of counts more.
+//! The command `replay`: writes what `run` does, from a world in which a seed draws the events of the workers, and notes a line of
+//! counts.
 ghost use Rattle.cosim_call.specs.Calls.{stream};
 ghost use Rattle.cosim_call.specs.Coming.{Serves};
 ghost use Rattle.cosim_answers.specs.Answer.{Answers};
@@ -33,7 +34,7 @@ fn replay_plan<O: Sink>(
     }
 }
 
-/// What is told of a replay that came to its end: the status, and the notes with the line of its counts.
+/// Returns the report of a replay that came to its end: the status, and the notes with the line of its counts.
 fn replayed(alloc: Global, plan: &Plan, counts: Counts) -> Result<Served, Stopped>
     ensures { TellsReplayed plan.now.system counts result }
 {

@@ -1,4 +1,4 @@
-//! The command `resume`, in four steps: what the text saves, the plan of the system behind it, a run from there, and how this ended.
+//! The command `resume`, in four steps: what the text saves, the plan of the system after it, a run from there, and how this ended.
 ghost use Rattle.std.specs.Prelude.{◌≡◌, ◌+◌, ◌≤◌, length, IfErr, IfOk, IfSome};
 ghost use Rattle.command_line.specs.Commands.{saved_limit};
 ghost use Rattle.command_line.specs.declared.commands.Command.TheVariants.{Resume};
@@ -26,7 +26,7 @@ use trace_rows::{CrewFault, Report};
 /// How many lines come before those of the states.
 const FIRST_LINES: u32 = 3;
 
-/// What a text saves, or at which line it breaks.
+/// Returns what a text saves, or the line at which it breaks.
 fn saved_in(alloc: Global, text: &[u8]) -> Result<Saved, Stopped>
     ensures { FindsSaved text.now result }
 {
@@ -40,7 +40,7 @@ fn saved_in(alloc: Global, text: &[u8]) -> Result<Saved, Stopped>
     }
 }
 
-/// The number in the whole text of a line behind those that save a position; none where a refusal can't name it.
+/// Returns the number in the whole text of a line after those that save a position, or `None` where a refusal can't have this number.
 fn line_in_whole(saved: &Saved, line: u32) -> Option<u32>
     ensures { IfSome result (λ number. number ≡ lines_before saved.now + line) }
 {
@@ -48,8 +48,8 @@ fn line_in_whole(saved: &Saved, line: u32) -> Option<u32>
     FIRST_LINES.checked_add(states)?.checked_add(line)
 }
 
-/// The plan of the system of the text behind what is saved, or the refusal of that text. A line that can't be named is told as want
-/// of memory.
+/// Returns the plan of the system of the text after the saved position, or the refusal of that text. A line whose number is too great is
+/// reported as lack of memory.
 fn plan_behind(alloc: Global, text: &[u8], saved: &Saved) -> Result<Arc<Plan>, Stopped>
     requires { IsSaved text.now saved.now }
     ensures planned { IfOk result (λ plan. IsAccepted (text_behind text.now saved.now) plan.value.system) }
@@ -66,7 +66,7 @@ fn plan_behind(alloc: Global, text: &[u8], saved: &Saved) -> Result<Arc<Plan>, S
     }
 }
 
-/// The run of a plan from the position that is saved, or the refusal of this.
+/// Returns the run of a plan from the saved position, or the refusal of this position.
 fn run_from(alloc: Global, plan: &Arc<Plan>, saved: &Saved) -> Result<Run, Stopped>
     ensures { OpensSaved plan.now.value saved.now result }
 {
@@ -80,7 +80,7 @@ fn run_from(alloc: Global, plan: &Arc<Plan>, saved: &Saved) -> Result<Run, Stopp
     }
 }
 
-/// Puts the rows of a run from where it was opened.
+/// Writes the rows of a run from where it was opened.
 fn go_on<O: Sink>(alloc: Global, plan: &Plan, run: Run, out: &mut O) -> Result<Report, Stopped>
     requires opened { IsOpened plan.now run.opened run }
     requires stands { Stands run }
@@ -93,7 +93,7 @@ fn go_on<O: Sink>(alloc: Global, plan: &Plan, run: Run, out: &mut O) -> Result<R
     }
 }
 
-/// What is told of a run that came to its end: the status, and the notes.
+/// Returns the report of a run that came to its end: the status, and the notes.
 fn resumed(alloc: Global, plan: &Plan, report: Report) -> Result<Served, Stopped>
     ensures { TellsResumed plan.now.system report result }
 {
@@ -104,7 +104,7 @@ fn resumed(alloc: Global, plan: &Plan, report: Report) -> Result<Served, Stopped
     })
 }
 
-/// Goes on from the position that a text saves, or refuses the text.
+/// Continues from the position that a text saves, or refuses the text.
 pub(crate) fn serve<O: Sink>(alloc: Global, text: &[u8], out: &mut O) -> Result<Served, Stopped>
     requires within { length text.now ≤ saved_limit }
     ensures { Serves (Answers Resume text.now) (stream (O.held out.old) (O.faults out.old)) (stream (O.held out.new) (O.faults out.new)) result }

@@ -23,7 +23,7 @@ use trace_rows::{CrewFault, Report};
 use unit_tree::Ending;
 use work_crew::{Gate, Policy, run_crew};
 
-/// The plan of the system that a text says, or the text's refusal.
+/// Returns the plan of the system of a text, or the text's refusal.
 pub(crate) fn plan_of(alloc: Global, text: &[u8]) -> Result<Arc<Plan>, Stopped>
     ensures planned { IfOk result (λ plan. IsAccepted text.now plan.value.system) }
     ensures whole { IfOk result (λ plan. plan.value ≡ planned plan.value.system) }
@@ -31,12 +31,12 @@ pub(crate) fn plan_of(alloc: Global, text: &[u8]) -> Result<Arc<Plan>, Stopped>
 {
     let read = accept(alloc, text)?;
     let plan = Plan::ordered(alloc, read.checked, read.order)?;
-    // That it runs what is run of its system is known by the clauses of this call alone.
+    // Called for its clauses, which state that the plan's run is that of its system's plain form.
     let _ = plan.checked();
     Ok(Arc::new(alloc, plan)?)
 }
 
-/// Runs a plan in the calling thread, so that all steps of its report are its own and there are no tickets.
+/// Runs a plan in the calling thread. All steps of its report are its own, and there are no tickets.
 pub(crate) fn run_plan<O: Sink>(
     alloc: Global,
     plan: &Arc<Plan>,
@@ -94,7 +94,7 @@ pub(crate) fn run_crewed<R: Threads + Wait + Copy + Send + Drop + 'static, O: Si
     }
 }
 
-/// The status of how a run ended.
+/// Returns the status of how a run ended.
 pub(crate) fn status(ending: Ending) -> Status
     ensures { result ≡ status_of ending }
 {
@@ -107,7 +107,8 @@ pub(crate) fn status(ending: Ending) -> Status
     }
 }
 
-/// What is told of a run of a plan that came to its end: the status, and the notes, with the line of its report where one is asked for.
+/// Returns the report of a run of a plan that came to its end: the status, and the notes, with the line of its counts where one is asked
+/// for.
 fn reported(alloc: Global, plan: &Plan, asked: &Running, report: Report) -> Result<Served, Stopped>
     ensures { TellsEnding plan.now.system asked.now report result }
 {
@@ -135,7 +136,7 @@ pub(crate) fn serve<O: Sink>(
     reported(alloc, &plan, asked, report)
 }
 
-/// Runs a text with the workers that are asked for, of which there is one at least, or refuses it.
+/// Runs a text with the workers that are asked for, at least one, or refuses it.
 pub(crate) fn serve_crewed<R: Threads + Wait + Copy + Send + Drop + 'static, O: Sink, G: Gate>(
     rt: R,
     alloc: Global,

@@ -13,7 +13,7 @@ use std::alloc::Global;
 use std::sync::Arc;
 use trace_core::Plan;
 
-/// The saved text of the position of a number in a plan's trace. A number that this hasn't is refused.
+/// Returns the saved text of the position with a number in a plan's trace, or a refusal where there is none.
 fn saved_text(alloc: Global, plan: &Arc<Plan>, row: u64) -> Result<Vec<u8>, Stopped>
     ensures { MakesSaved plan.now.value row result }
 {
@@ -28,7 +28,7 @@ fn saved_text(alloc: Global, plan: &Arc<Plan>, row: u64) -> Result<Vec<u8>, Stop
     }
 }
 
-/// What is put of a text: the saved text of the position that is asked for.
+/// Returns what is written for a text: the saved text of the position that is asked for.
 pub(crate) fn make(alloc: Global, asked: Saving, text: &[u8]) -> Result<Vec<u8>, Stopped>
     ensures { Makes (Answers (Save asked) text.now) result }
 {

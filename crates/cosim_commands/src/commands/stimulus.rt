@@ -13,7 +13,8 @@ use std::alloc::Global;
 use stimulus_tables::{TableFault, stimulus};
 use unit_tree::System;
 
-/// The system that plays a table. One that leaves the form is refused, at the number of the record in place of a line.
+/// Returns the system that plays a table, or a refusal where it doesn't have the form. The refusal has the number of
+/// the record instead of a line.
 fn system_of(alloc: Global, table: &[u8]) -> Result<System, Stopped>
     ensures { FindsTable table.now result }
 {
@@ -27,7 +28,7 @@ fn system_of(alloc: Global, table: &[u8]) -> Result<System, Stopped>
     }
 }
 
-/// What is put of a table: the canonical text of the system that plays it.
+/// Returns what is written for a table: the canonical text of the system that plays it.
 #[inline(never)]
 pub(crate) fn make(alloc: Global, table: &[u8]) -> Result<Vec<u8>, Stopped>
     requires within { length table.now ≤ stimulus_limit }

@@ -14,7 +14,7 @@ use std::alloc::Global;
 use unit_tree::System;
 use unit_upgrade::{UpgradeFault, upgrade};
 
-/// A system in version 2. One whose text is too long there is refused.
+/// Returns a system in version 2, or a refusal where its text would be too long.
 fn upgraded(alloc: Global, system: &System) -> Result<System, Stopped>
     requires printable { IsPrintable system.now }
     requires well_formed { IsWellFormed system.now }
@@ -30,7 +30,7 @@ fn upgraded(alloc: Global, system: &System) -> Result<System, Stopped>
     }
 }
 
-/// What is put of a text: the canonical text of its system in version 2.
+/// Returns what is written for a text: the canonical text of its system in version 2.
 pub(crate) fn make(alloc: Global, text: &[u8]) -> Result<Vec<u8>, Stopped>
     ensures { Makes (Answers Upgrade text.now) result }
 {

@@ -15,7 +15,7 @@ use model_rules::Rule;
 use std::alloc::Global;
 use trace_verify::{Parted, Verdict, part, verify};
 
-/// The text and the table of an input.
+/// Returns the text and the table of an input, or its refusal.
 fn parts_of(input: &[u8]) -> Result<Parted<'_>, Stopped>
     ensures { FindsParts input.now result }
 {
@@ -28,7 +28,7 @@ fn parts_of(input: &[u8]) -> Result<Parted<'_>, Stopped>
     }
 }
 
-/// The line of a verdict.
+/// Returns the line of a verdict.
 fn line_of(alloc: Global, verdict: Verdict) -> Result<Vec<u8>, NoMemory>
     ensures { IfOk result (λ line. line.items ≡ verdict_text verdict) }
 {
@@ -52,7 +52,7 @@ fn line_of(alloc: Global, verdict: Verdict) -> Result<Vec<u8>, NoMemory>
     Ok(line)
 }
 
-/// What is put of an input: the verdict on the table, which should be the trace of the text before it.
+/// Returns what is written for an input: the verdict on the table, which should be the trace of the text before it.
 #[inline(never)]
 pub(crate) fn make(alloc: Global, input: &[u8]) -> Result<Vec<u8>, Stopped>
     requires within { length input.now ≤ verify_limit }

@@ -2,7 +2,7 @@ use Rattle.std.proofs.Common.{◌≡◌, ◌<◌, ◌^◌, drop}
 use Rattle.command_line.specs.Options.{number_behind}
 use Rattle.command_line.proofs.options.number_of_digits.Given as goal
 
--- the number so far has no more digits than were read, and those that are left make, behind it, what all of them make
+-- The number so far has at most as many digits as were read, and those that are left make with it what all of them make.
 abbrev pub invariant-loop-byte : goal.invariant-loop-byte
 invariant-loop-byte l = record {
   small : l.number < 10 ^ l.byte-index;

@@ -5,11 +5,11 @@ use Rattle.cosim_call.specs.Notes.{line_end}
 use Rattle.cosim_answers.specs.Notes.{nodes_text}
 use Rattle.cosim_commands.proofs.note.nodes.Goals as goal
 
--- the pieces, one behind the other
+-- The pieces, one after the other.
 abbrev pieces : List ℕ → List ℕ → List ℕ
 pieces one other = codes "cosim: node 0 row " ++ (one ++ (codes ", node 1 row " ++ (other ++ line_end)))
 
--- are the line
+-- The pieces are the line.
 line_is : (first second : ℕ) → pieces (decimal first) (decimal second) ≡ nodes_text first second
 line_is first second =
     ap (λ rest. codes "cosim: node 0 row " ++ rest)

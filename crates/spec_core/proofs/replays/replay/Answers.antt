@@ -8,7 +8,7 @@ use Rattle.spec_core.proofs.replays.replay.Goals as goal
 use Rattle.trace_plan.specs.Plans.{Planned}
 use Rattle.trace_rows.proofs.RunEnds.{front_none}
 
--- ---- Nothing was put
+-- ---- Nothing was written
 
 pub returns-in_err-clone-clause-front : goal.returns-in_err-clone-clause-front
 returns-in_err-clone-clause-front g c = on_err c.from_residual.result (front_none c.args.plan.value.system (g.O.Sink.held c.args.out.now))

@@ -153,7 +153,7 @@ returns-clause-plain_forms c = record {
 by_word : (value word : Expr) → word_expression_of types.Int64 value ≡ word → is_mistaken value ≡ not (has_kind (Some kinds.Int) word (kinds_in with_e))
 by_word value word is = ap (λ w. not (has_kind (Some kinds.Int) w (kinds_in with_e))) is
 
--- ---- Choices of `absent` alone
+-- ---- Choices with only `absent`
 
 abbrev filled : Expr → ℕ → Expr
 filled gap zero = gap
@@ -171,7 +171,7 @@ filled_depth gap (suc count) some =
     fold-Choose ℕ node_depth (expr.Truth true) gap (filled gap count)
     ∙ rw (fold-Truth ℕ node_depth true, filled_depth gap count some) (omega arith)
 
--- How deep an event output becomes, by the depth of the zero of its type.
+-- The depth of an event output, by the depth of the zero of its type.
 deep_by : (ty : Ty) (count gap : ℕ) → depth_of (zero_of ty) ≡ gap → 1 ≤ gap
     → is_deep_event ty (gaps count) ≡ (nat_lt 32 (count + 1) || (nat_lt 32 (count + gap) || false))
 deep_by ty count gap is some =

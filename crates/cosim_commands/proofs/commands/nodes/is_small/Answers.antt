@@ -8,7 +8,7 @@ use Rattle.cosim_answers.specs.NodesAnswers.{nodes_limit, outputs_run, size_for_
 use Rattle.cosim_answers.proofs.NodesLaws.{outputs_counted}
 use Rattle.cosim_commands.proofs.commands.nodes.is_small.Goals as goal
 
--- the product is the size
+-- The product is the size.
 size_as : (run : Composition) (rows widest outputs instances : ℕ) (routes : Routes) → rows ≡ run.row_budget → widest ≡ max outputs instances
     → outputs ≡ length routes.outputs → routes ≡ routes_of run → instances ≡ length run.members → rows * widest ≡ size_for_nodes run
 size_as run rows widest outputs instances routes are_rows is_widest are_outputs are_routes are_instances =
@@ -26,7 +26,7 @@ returns-in-Some c =
     c.row_limit.ensures.value c.max.ensures c.len-outputs.ensures (c.routes.ensures.routes ∙ c.order.ensures.routes)
     (c.from-instances.ensures ∙ c.instances.ensures.count))
 
--- a product that is no word is more than the limit
+-- A product that does not fit a word is more than the limit.
 above : (product size : ℕ) → (product < 18446744073709551616 → ⊥) → product ≡ size → false ≡ nat_le size nodes_limit
 above product size large is = by (leb_tells size nodes_limit)
   where

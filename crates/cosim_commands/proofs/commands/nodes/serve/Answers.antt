@@ -12,7 +12,7 @@ use Rattle.cosim_answers.proofs.MakingLaws.{handed_on}
 use Rattle.cosim_answers.proofs.NodesLaws.{nodes_stop, rounds_given_up, rounds_told, too_large_refused}
 use Rattle.cosim_commands.proofs.commands.nodes.serve.Goals as goal
 
--- a number is at most another one, or above it, as it was decided
+-- A number is at most another one, or above it, as the test says.
 module _ (size limit : ℕ) {told : Bool} (is : told ≡ nat_le size limit) where
   above : told ≡ false → limit < size
   above isnt = by (leb_tells size limit)
