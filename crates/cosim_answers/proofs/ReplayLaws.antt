@@ -16,7 +16,7 @@ use Rattle.spec_core.proofs.ReplayLaws.{every_seed_lem}
 use Rattle.super_time.specs.declared.point.Point.{Point}
 use Rattle.trace_core.specs.Runs.{RunState}
 use Rattle.trace_plan.specs.Plans.{Planned}
-use Rattle.trace_rows.specs.Reports.{PutsFront}
+use Rattle.trace_rows.specs.Reports.{AppendsTracePrefix}
 use Rattle.unit_tree.specs.Compositions.{run_of}
 use Rattle.unit_tree.specs.Trace.{IsTraceOf, Row}
 use Rattle.unit_tree.specs.declared.ending.Ending.{Ending}
@@ -83,7 +83,7 @@ replay_stops asked text out stopped.WriteFault refused = absurd refused
 
 -- What was written is a prefix of the text of a trace that exists.
 begins_answer : (asked : Replaying) (text : List ℕ) (system : System) → IsAccepted text system → (out out' : Stream)
-    → PutsFront system out.bytes out'.bytes → Begins (Answers (Replay asked) text) out out'
+    → AppendsTracePrefix system out.bytes out'.bytes → Begins (Answers (Replay asked) text) out out'
 begins_answer asked text system accepted out out' front =
     let whole = whole_of text system accepted.0 accepted.1 in
     let one = plain_outcome system whole in

@@ -20,7 +20,7 @@ use Rattle.save_point.specs.declared.reading.Saved.{Saved}
 use Rattle.trace_core.specs.Runs.{RunState}
 use Rattle.trace_plan.specs.Plans.{Planned}
 use Rattle.trace_rows.specs.Lines.{lines_of}
-use Rattle.trace_rows.specs.Reports.{PutsRestFront, ReportsRest}
+use Rattle.trace_rows.specs.Reports.{AppendsRestPrefix, ReportsRest}
 use Rattle.trace_rows.specs.declared.report.Report.{Report}
 use Rattle.unit_tree.specs.Compositions.{run_of}
 use Rattle.unit_tree.specs.Trace.{GoesOnFrom, IsPositionOf, Row, Stand, rows_of}
@@ -99,7 +99,7 @@ module _ (text : List ℕ) (saved : Saved) (plan : Planned) (within : length tex
     by_rest : (answer : Answer) → TellsRest plan.system r.opened answer → Answers Resume text answer
     by_rest answer tells = inr (record { saved = saved; system = plan.system; saves = in_text; at = r.opened; fits = fits; tells = tells })
 
-    begins_rest : (out out' : Stream) → PutsRestFront plan r.opened out.bytes out'.bytes → Begins (Answers Resume text) out out'
+    begins_rest : (out out' : Stream) → AppendsRestPrefix plan r.opened out.bytes out'.bytes → Begins (Answers Resume text) out out'
     begins_rest out out' front =
         let rest = rest_there plan.system saved r.opened is_whole fits in
         let stands = rest.1.rest.stands in

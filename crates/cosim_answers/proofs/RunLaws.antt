@@ -9,7 +9,7 @@ use Rattle.event_runs.specs.EventRuns.{IsEventTraceOf, event_members_of}
 use Rattle.event_runs.specs.Readings.{read_end, read_row, read_rows}
 use Rattle.event_runs.proofs.SystemTraces.{tells}
 use Rattle.serial_run.specs.Alone.{IsAlone}
-use Rattle.trace_rows.specs.Reports.{PutsFront, ReportsTrace}
+use Rattle.trace_rows.specs.Reports.{AppendsTracePrefix, ReportsTrace}
 use Rattle.trace_rows.specs.declared.report.Report.{Report}
 use Rattle.super_time.specs.declared.point.Point.{Point}
 use Rattle.trace_csv.specs.TraceText.{trace_text}
@@ -141,7 +141,7 @@ run_stops asked text out stopped.ReadFault refused = absurd refused
 run_stops asked text out stopped.WriteFault refused = absurd refused
 
 -- What was written is a prefix of the text of a trace that exists.
-begins_answer : (asked : Running) (text : List ℕ) (system : System) → IsAccepted text system → (out out' : Stream) → PutsFront system out.bytes out'.bytes
+begins_answer : (asked : Running) (text : List ℕ) (system : System) → IsAccepted text system → (out out' : Stream) → AppendsTracePrefix system out.bytes out'.bytes
     → Begins (Answers (Run asked) text) out out'
 begins_answer asked text system accepted out out' front =
     let whole = whole_of text system accepted.0 accepted.1 in

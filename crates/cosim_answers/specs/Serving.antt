@@ -16,7 +16,7 @@ use Rattle.text_accept.specs.Accepting.{IsAcceptedAs, IsRefusedAt}
 use Rattle.text_accept.specs.declared.accepting.AcceptedText.{AcceptedText}
 use Rattle.trace_core.specs.Runs.{RunState, Stands}
 use Rattle.trace_plan.specs.Plans.{Planned}
-use Rattle.trace_rows.specs.Reports.{PutsFront, PutsRestFront, ReportsRest, ReportsTrace}
+use Rattle.trace_rows.specs.Reports.{AppendsTracePrefix, AppendsRestPrefix, ReportsRest, ReportsTrace}
 use Rattle.trace_rows.specs.declared.report.Report.{Report}
 use Rattle.trace_verify.specs.Parting.{IsParted}
 use Rattle.stimulus_tables.specs.Stimuli.{IsSystemOf}
@@ -70,8 +70,8 @@ Upgrades system (Err _) = ⊥
 -- and what was written is a prefix of that text.
 abbrev pub Runs : System → Stream → Stream → Result Report Stopped → Type 0
 Runs system out out' (Ok report) = ReportsTrace system out.bytes out'.bytes report × (out'.faults ≡ out.faults)
-Runs system out out' (Err stopped.WriteFault) = PutsFront system out.bytes out'.bytes × Fails out out'
-Runs system out out' (Err stopped.NoMemory) = PutsFront system out.bytes out'.bytes × (out'.faults ≡ out.faults)
+Runs system out out' (Err stopped.WriteFault) = AppendsTracePrefix system out.bytes out'.bytes × Fails out out'
+Runs system out out' (Err stopped.NoMemory) = AppendsTracePrefix system out.bytes out'.bytes × (out'.faults ≡ out.faults)
 Runs system out out' (Err _) = ⊥
 
 -- The end of a run of the system is reported by its status, and its notes with the names of the system, and with the line of the report
@@ -87,8 +87,8 @@ TellsEnding system asked report (Err why) = why ≡ stopped.NoMemory
 abbrev pub Replays : Planned → Replaying → Stream → Stream → Result Counts Stopped → Type 0
 Replays plan asked out out' (Ok counts) =
     PutsTrace plan.system counts.last counts.outcome out.bytes out'.bytes × IsReplayed plan asked.seed asked.workers counts × (out'.faults ≡ out.faults)
-Replays plan asked out out' (Err stopped.WriteFault) = PutsFront plan.system out.bytes out'.bytes × Fails out out'
-Replays plan asked out out' (Err stopped.NoMemory) = PutsFront plan.system out.bytes out'.bytes × (out'.faults ≡ out.faults)
+Replays plan asked out out' (Err stopped.WriteFault) = AppendsTracePrefix plan.system out.bytes out'.bytes × Fails out out'
+Replays plan asked out out' (Err stopped.NoMemory) = AppendsTracePrefix plan.system out.bytes out'.bytes × (out'.faults ≡ out.faults)
 Replays plan asked out out' (Err _) = ⊥
 
 -- The end of a replay is reported as that of a run, and then the line of its counts.
@@ -132,8 +132,8 @@ OpensSaved plan saved (Err _) = ⊥
 -- was written is a prefix of these lines.
 abbrev pub GoesOn : Planned → Position → Stream → Stream → Result Report Stopped → Type 0
 GoesOn plan at out out' (Ok report) = ReportsRest plan at out.bytes out'.bytes report × (out'.faults ≡ out.faults)
-GoesOn plan at out out' (Err stopped.WriteFault) = PutsRestFront plan at out.bytes out'.bytes × Fails out out'
-GoesOn plan at out out' (Err stopped.NoMemory) = PutsRestFront plan at out.bytes out'.bytes × (out'.faults ≡ out.faults)
+GoesOn plan at out out' (Err stopped.WriteFault) = AppendsRestPrefix plan at out.bytes out'.bytes × Fails out out'
+GoesOn plan at out out' (Err stopped.NoMemory) = AppendsRestPrefix plan at out.bytes out'.bytes × (out'.faults ≡ out.faults)
 GoesOn plan at out out' (Err _) = ⊥
 
 -- Its end is reported as that of a run.

@@ -10,10 +10,10 @@ use Rattle.link_laws.specs.Making.{nothing_known, rule_of}
 use Rattle.link_laws.specs.Nodes.{Making, restarted}
 use Rattle.link_core.specs.Noted.{AreNotes, forgotten, making_in, part_at}
 use Rattle.link_core.specs.Ready.{kept_in, progress_in, shown_in}
-use Rattle.link_core.specs.declared.course.Course.{Course}
+use Rattle.link_core.specs.declared.course.NodePosition.{NodePosition}
 use Rattle.link_core.specs.declared.course.Kept.{Kept}
 use Rattle.link_core.specs.declared.notes.Notes.{Notes}
-use Rattle.link_core.proofs.GoLaws.{known_is}
+use Rattle.link_core.proofs.NextRows.{known_is}
 use Rattle.link_core.proofs.LoopLaws.{Made, none_made, one_made}
 use Rattle.link_core.proofs.RoomLaws.{room_for, room_set, words_in}
 use Rattle.link_core.proofs.StageBodies.{as_many_mapped, mapped_at}
@@ -85,7 +85,7 @@ module _ (run : Composition) (kept : List (Vec ℤ Global)) (k : ℕ) (one : Vec
 
 -- ---- A node that starts again
 
-pub restarted_is : (run : Composition) (owners : List ℕ) (me : ℕ) (old new : List (List ℤ)) (notes cleared : Notes) (course again : Course) (kept : Kept)
+pub restarted_is : (run : Composition) (owners : List ℕ) (me : ℕ) (old new : List (List ℤ)) (notes cleared : Notes) (course again : NodePosition) (kept : Kept)
     → AreNotes run notes → making_in cleared ≡ forgotten (making_in notes)
     → new ≡ map words_in kept.states.items → again.point ≡ kept.point → again.number ≡ kept.number → again.ended ≡ None → shown_in again.shown ≡ None
     → progress_in owners me new cleared again kept ≡ restarted (rule_of run owners) (progress_in owners me old notes course kept)

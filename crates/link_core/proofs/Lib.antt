@@ -1,7 +1,7 @@
-pub mod AllLaws
-pub mod AskLaws
+pub mod MakingAll
+pub mod AskedOutputs
 pub mod CountLaws
-pub mod GoLaws
+pub mod NextRows
 pub mod KeepLaws
 pub mod LoopLaws
 pub mod NodeLaws
@@ -14,6 +14,6 @@ pub mod StageItems
 pub mod StepBodies
 pub mod TakeLaws
 pub mod TruthLaws
-pub mod TryLaws
+pub mod TriedSteps
 pub mod WordLaws
 pub mod WorkLaws

@@ -6,7 +6,7 @@ use Rattle.link_laws.specs.Making.{ports_in, rule_of}
 use Rattle.link_laws.specs.Nodes.{Making, Progress, worked}
 use Rattle.link_core.specs.Noted.{AreNotes, IsTrue, is_defined, making_in, part_at}
 use Rattle.link_core.specs.Ready.{IsJudged, IsReady, kept_in, progress_in, shown_in}
-use Rattle.link_core.specs.declared.course.Course.{Course}
+use Rattle.link_core.specs.declared.course.NodePosition.{NodePosition}
 use Rattle.link_core.specs.declared.course.Kept.{Kept}
 use Rattle.link_core.specs.declared.notes.Notes.{Notes}
 use Rattle.link_laws.specs.declared.taken.Taken.{Taken}
@@ -27,7 +27,7 @@ noted_again run old new same defined are = record {
 }
 
 -- Notes with the same contents are those of the same node.
-pub same_progress : (owners : List ℕ) (me : ℕ) (states : List (List ℤ)) (old new : Notes) (course : Course) (kept : Kept) → making_in new ≡ making_in old
+pub same_progress : (owners : List ℕ) (me : ℕ) (states : List (List ℤ)) (old new : Notes) (course : NodePosition) (kept : Kept) → making_in new ≡ making_in old
     → progress_in owners me states new course kept ≡ progress_in owners me states old course kept
 same_progress owners me states old new course kept same =
     ap (λ (m : Making). record {
@@ -39,7 +39,7 @@ same_progress owners me states old new course kept same =
       row = shown_in course.shown;
     }) same
 
-module _ (plan : Planned) (judged : IsJudged plan.run) (owners : List ℕ) (me : ℕ) (units : Fleet) (notes : Notes) (course : Course) (kept : Kept)
+module _ (plan : Planned) (judged : IsJudged plan.run) (owners : List ℕ) (me : ℕ) (units : Fleet) (notes : Notes) (course : NodePosition) (kept : Kept)
     (before : List (List ℤ)) (set : IsSet plan owners me units notes course kept before)
     (keeps : KeepsTo plan.run (rule_of plan.run owners) me (progress_in owners me units.states notes course kept)) (reserved : Notes)
     (same : making_in reserved ≡ making_in notes) where

@@ -6,7 +6,7 @@ use Rattle.link_laws.specs.Nodes.{Making, opened}
 use Rattle.link_core.specs.Noted.{AreNotes, is_defined, making_in, part_at}
 use Rattle.link_laws.specs.Boards.{are_nothing}
 use Rattle.link_core.specs.Ready.{progress_in, shown_in}
-use Rattle.link_core.specs.declared.course.Course.{Course}
+use Rattle.link_core.specs.declared.course.NodePosition.{NodePosition}
 use Rattle.link_core.specs.declared.notes.Notes.{Notes}
 use Rattle.link_core.proofs.CountLaws.{none_defined}
 use Rattle.link_laws.proofs.PlaceLaws.{nothing_fed}
@@ -74,7 +74,7 @@ module _ (run : Composition) (places instances : ℕ) (many : places ≡ length 
       ∙ ap (λ all. record { words = (nothing_known run).words; limits = (nothing_known run).limits; replies = all; redos = all })
       (each_value instances run.members None members)
 
-  pub opened_is : (owners : List ℕ) (me : ℕ) (states : List (List ℤ)) (course : Course) (kept : Vec (Vec ℤ Global) Global)
+  pub opened_is : (owners : List ℕ) (me : ℕ) (states : List (List ℤ)) (course : NodePosition) (kept : Vec (Vec ℤ Global) Global)
       → states ≡ (first_position run).states → map words_in kept.items ≡ (first_position run).states
       → course.point ≡ record { t = 0; n = 0 } → course.number ≡ 0 → course.ended ≡ None → shown_in course.shown ≡ None
       → progress_in owners me states notes course (record { point = record { t = 0; n = 0 }; number = 0; states = kept }) ≡ opened (rule_of run owners) me

@@ -6,7 +6,7 @@ use Rattle.std.specs.Prelude.{slice_get, slice_index_or}
 use Rattle.std.specs.Vec.{with_items}
 use Rattle.list_laws.proofs.Vectors.{items_put}
 use Rattle.link_core.proofs.StageBodies.{mapped_at}
-use Rattle.link_core.proofs.TryLaws.{state_long}
+use Rattle.link_core.proofs.TriedSteps.{state_long}
 use Rattle.list_laws.proofs.Members.{at_place, read_at}
 use Rattle.list_laws.proofs.Pairs.{zip_at, zip_set}
 use Rattle.port_solve.specs.Solved.{HaveStates}

@@ -13,7 +13,7 @@ use Rattle.link_laws.specs.Making.{held, is_held_by, is_own, no_states, own_stat
 use Rattle.link_laws.specs.Nodes.{Making, Progress, drops, has, knowing, taken, worked}
 use Rattle.link_core.specs.Noted.{AreNotes, IsItemOf, IsWordSeen, knowing_fact, making_in}
 use Rattle.link_core.specs.Ready.{IsJudged, is_dropped, progress_in}
-use Rattle.link_core.specs.declared.course.Course.{Course}
+use Rattle.link_core.specs.declared.course.NodePosition.{NodePosition}
 use Rattle.link_core.specs.declared.course.Kept.{Kept}
 use Rattle.link_laws.specs.declared.fact.Fact.{Fact}
 use Rattle.link_laws.specs.declared.fact.Fact.TheVariants.{Limit, Reply, Word}
@@ -146,7 +146,7 @@ pub taken_is : (run : Composition) (owners : List ℕ) (me : ℕ) (node : Progre
 taken_is run owners me node fact test did is so worked_is =
     worked_is ∙ sym (ap (λ one. if one then (node, Dropped) else worked (rule_of run owners) me (knowing node fact)) (sym is ∙ so))
 
-module _ (plan : Planned) (judged : IsJudged plan.run) (owners : List ℕ) (me : ℕ) (units : Fleet) (notes : Notes) (course : Course) (kept : Kept)
+module _ (plan : Planned) (judged : IsJudged plan.run) (owners : List ℕ) (me : ℕ) (units : Fleet) (notes : Notes) (course : NodePosition) (kept : Kept)
     (before : List (List ℤ)) (set : IsSet plan owners me units notes course kept before)
     (keeps : KeepsTo plan.run (rule_of plan.run owners) me (progress_in owners me units.states notes course kept)) (fact : Fact)
     (honest : IsHonest plan.run fact)

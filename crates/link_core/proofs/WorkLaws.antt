@@ -6,7 +6,7 @@ use Rattle.link_laws.specs.Making.{made, move_by, rule_of, stage_at}
 use Rattle.link_laws.specs.Nodes.{Making, Progress, moved, worked}
 use Rattle.link_core.specs.Noted.{IsTrue, making_in, part_at}
 use Rattle.link_core.specs.Ready.{IsJudged, all_made, kept_in, progress_in, shown_in}
-use Rattle.link_core.specs.declared.course.Course.{Course}
+use Rattle.link_core.specs.declared.course.NodePosition.{NodePosition}
 use Rattle.link_core.specs.declared.course.Kept.{Kept}
 use Rattle.link_core.specs.declared.notes.Notes.{Notes}
 use Rattle.link_laws.specs.declared.taken.Taken.{Taken}
@@ -20,7 +20,7 @@ use Rattle.unit_tree.specs.Compositions.{Composition}
 use Rattle.unit_tree.specs.Successor.{Position}
 use Rattle.unit_tree.specs.declared.ending.Ending.{Ending}
 
-module _ (run : Composition) (owners : List ℕ) (me : ℕ) (states : List (List ℤ)) (notes made_notes : Notes) (course : Course) (kept : Kept) where
+module _ (run : Composition) (owners : List ℕ) (me : ℕ) (states : List (List ℤ)) (notes made_notes : Notes) (course : NodePosition) (kept : Kept) where
   abbrev here : Position
   here = part_at owners me course.point course.number states
 
@@ -53,7 +53,7 @@ module _ (run : Composition) (judged : IsJudged run) (owners : List ℕ) (me : �
   pub right : IsRightRule run (rule_of run owners)
   right = rule_is_right run judged.order owners judged.is_order judged.members owns
 
-  module _ (states : List (List ℤ)) (notes : Notes) (course : Course) (kept : Kept)
+  module _ (states : List (List ℤ)) (notes : Notes) (course : NodePosition) (kept : Kept)
       (keeps : KeepsTo run (rule_of run owners) me (progress_in owners me states notes course kept)) where
     pub is_true : IsTrue run owners me course.point course.number states (making_in notes).known
     is_true = record { stand = keeps.stand; place = keeps.stands.place; part = keeps.stands.part; agrees = keeps.agrees }

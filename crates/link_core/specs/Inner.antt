@@ -7,7 +7,7 @@ use Rattle.link_laws.specs.Making.{ports_in, rule_of}
 use Rattle.link_core.specs.NodeStates.{NodeState}
 use Rattle.link_core.specs.Noted.{AreNotes}
 use Rattle.link_core.specs.Ready.{progress_in}
-use Rattle.link_core.specs.declared.course.Course.{Course}
+use Rattle.link_core.specs.declared.course.NodePosition.{NodePosition}
 use Rattle.link_core.specs.declared.course.Kept.{Kept}
 use Rattle.link_core.specs.declared.node.Node.TheInside.{Inside}
 use Rattle.link_core.specs.declared.notes.Notes.{Notes}
@@ -26,7 +26,7 @@ node_state node = record {
 
 -- Its units are those of its plan, and inputs have the known words. There is memory for the states of all instances, twice, and for
 -- the words of a row.
-pub record IsSet (plan : Planned) (owners : List ℕ) (me : ℕ) (units : Fleet) (notes : Notes) (course : Course) (kept : Kept)
+pub record IsSet (plan : Planned) (owners : List ℕ) (me : ℕ) (units : Fleet) (notes : Notes) (course : NodePosition) (kept : Kept)
     (before : List (List ℤ)) : Type 0 where
   pub tied : units.plan ≡ plan
   pub owned : length owners ≡ length plan.run.members

@@ -4,7 +4,7 @@ use Rattle.link_laws.specs.Boards.{Board, row_of}
 use Rattle.link_laws.specs.Making.{is_own, limits_made, ports_in, redos_made, replies_made, words_made}
 use Rattle.link_laws.specs.Nodes.{Making, Progress, has}
 use Rattle.link_core.specs.Noted.{AreNotes, IsTrue, making_in, part_at}
-use Rattle.link_core.specs.declared.course.Course.{Course}
+use Rattle.link_core.specs.declared.course.NodePosition.{NodePosition}
 use Rattle.link_core.specs.declared.course.Kept.{Kept}
 use Rattle.link_core.specs.declared.course.Shown.{Shown}
 use Rattle.link_laws.specs.declared.fact.Fact.{Fact}
@@ -28,7 +28,7 @@ shown_in shown = if shown.there then Some (record { point = shown.point; words =
 abbrev pub kept_in : List ℕ → ℕ → Kept → Position
 kept_in owners me kept = part_at owners me kept.point kept.number (map (λ one. one.items) kept.states.items)
 
-abbrev pub progress_in : List ℕ → ℕ → List (List ℤ) → Notes → Course → Kept → Progress
+abbrev pub progress_in : List ℕ → ℕ → List (List ℤ) → Notes → NodePosition → Kept → Progress
 progress_in owners me states notes course kept = record {
   at = part_at owners me course.point course.number states;
   known = (making_in notes).known;
@@ -65,6 +65,6 @@ all_made run owners me at making = redos_made run owners me at
 -- ---- Facts that arrive
 
 -- A node drops the fact.
-abbrev pub is_dropped : Composition → List ℕ → ℕ → Course → Board → Fact → Bool
+abbrev pub is_dropped : Composition → List ℕ → ℕ → NodePosition → Board → Fact → Bool
 is_dropped run owners me course known fact =
     is_some course.ended || (not (row_of fact == course.number) || (not (is_own run owners (1 - me) fact) || has known fact))

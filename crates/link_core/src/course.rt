@@ -23,7 +23,7 @@ pub(crate) struct Shown {
 
 /// The position of a node, and how the trace ended there, where it has.
 #[derive(Drop)]
-pub(crate) struct Course {
+pub(crate) struct NodePosition {
     pub(crate) point: Point,
     pub(crate) number: u64,
     pub(crate) ended: Option<Ending>,

@@ -8,7 +8,7 @@ ghost use Rattle.link_core.specs.NodeStates.{IsSameNode};
 ghost use Rattle.link_laws.specs.Nodes.{keeping, opened, restarted, taken, worked};
 ghost use Rattle.unit_tree.specs.Successor.{first_position};
 
-use crate::course::{Course, Kept};
+use crate::course::{Kept, NodePosition};
 use crate::keeping::{keep_states, restore_states};
 use crate::lengths::read_plan;
 use crate::notes::Notes;
@@ -42,7 +42,7 @@ pub struct Node {
     me: u8,
     units: Units,
     notes: Notes,
-    course: Course,
+    course: NodePosition,
     kept: Kept,
     /// Memory for the states before a trial.
     before: Vec<Vec<i64>>,

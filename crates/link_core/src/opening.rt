@@ -5,7 +5,7 @@ ghost use Rattle.link_core.specs.Ready.{shown_in};
 ghost use Rattle.port_solve.specs.Solved.{HaveTheirWords};
 ghost use Rattle.unit_tree.specs.Successor.{first_position};
 
-use crate::course::{Course, Shown};
+use crate::course::{NodePosition, Shown};
 use crate::notes::Notes;
 use fixed_words::NoMemory;
 use port_solve::set_starts;
@@ -50,7 +50,7 @@ pub(crate) fn notes_of(alloc: Global, places: usize, instances: usize) -> Result
 }
 
 /// Returns a course at its start, with space for a row of so many words.
-pub(crate) fn course_of(alloc: Global, places: usize) -> Result<Course, NoMemory>
+pub(crate) fn course_of(alloc: Global, places: usize) -> Result<NodePosition, NoMemory>
     ensures point { IfOk result (λ course. course.point ≡ record { t = 0; n = 0 }) }
     ensures number { IfOk result (λ course. course.number ≡ 0) }
     ensures ended { IfOk result (λ course. course.ended ≡ None) }
@@ -59,7 +59,7 @@ pub(crate) fn course_of(alloc: Global, places: usize) -> Result<Course, NoMemory
 {
     let words = Vec::with_capacity(alloc, places)?;
     let point = Point { t: 0, n: 0 };
-    Ok(Course {
+    Ok(NodePosition {
         point,
         number: 0,
         ended: None,

@@ -9,7 +9,7 @@ ghost use Rattle.link_laws.specs.declared.fact.Fact.TheVariants.{Word};
 ghost use Rattle.link_laws.specs.declared.fact.Seen.{Seen};
 ghost use Rattle.port_solve.specs.Solved.{HaveTheirWords};
 
-use crate::course::Course;
+use crate::course::NodePosition;
 use crate::notes::Notes;
 use crate::words::{learn, owner_at};
 use link_laws::Fact;
@@ -78,7 +78,7 @@ fn has(notes: &Notes, fact: Fact) -> bool
 pub(crate) fn drops(
     plan: &Plan,
     notes: &Notes,
-    course: &Course,
+    course: &NodePosition,
     owners: &[u8],
     me: u8,
     fact: Fact,

@@ -9,7 +9,7 @@ ghost use Rattle.port_solve.specs.Solved.{HaveStates, HaveTheirWords};
 ghost use Rattle.unit_tree.specs.Routes.{routes_of};
 ghost use Rattle.unit_tree.specs.Successor.{point_after};
 
-use crate::course::{Course, show};
+use crate::course::{NodePosition, show};
 use crate::notes::Notes;
 use crate::stage::find_stage;
 use crate::steps::{Trial, make_limits, make_replies, step_all};
@@ -198,7 +198,7 @@ pub(crate) fn go_on(
     plan: &Plan,
     units: &mut Units,
     notes: &mut Notes,
-    course: &mut Course,
+    course: &mut NodePosition,
     owners: &[u8],
     me: u8,
 ) -> Taken
@@ -242,7 +242,7 @@ pub(crate) fn work_on(
     units: &mut Units,
     before: &mut Vec<Vec<i64>>,
     notes: &mut Notes,
-    course: &mut Course,
+    course: &mut NodePosition,
     owners: &[u8],
     me: u8,
 ) -> Taken

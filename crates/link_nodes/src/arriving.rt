@@ -7,7 +7,7 @@ ghost use Rattle.link_core.specs.NodeStates.{IsSameNode};
 ghost use Rattle.link_laws.specs.Nodes.{taken, worked};
 ghost use Rattle.link_nodes.specs.ShownRows.{ComesTo, taken_all};
 
-use crate::row_room::{RowRoom, judged};
+use crate::row_room::{RowPrinter, judged};
 use cosim_io::Sink;
 use fixed_words::NoMemory;
 use link_core::{Fact, Node};
@@ -16,7 +16,7 @@ use trace_rows::CrewFault;
 
 /// Lets node 0 work, and writes the row to which it comes.
 pub(crate) fn work_shown<O: Sink>(
-    room: &mut RowRoom,
+    room: &mut RowPrinter,
     plan: &Plan,
     node: &mut Node,
     out: &mut O,
@@ -39,7 +39,7 @@ pub(crate) fn work_shown<O: Sink>(
 
 /// Lets node 0 take a fact, and writes the row to which it comes.
 fn take_shown<O: Sink>(
-    room: &mut RowRoom,
+    room: &mut RowPrinter,
     plan: &Plan,
     node: &mut Node,
     fact: &Fact,
@@ -64,7 +64,7 @@ fn take_shown<O: Sink>(
 
 /// Lets facts arrive at node 0, from the last to the first and each twice, and writes the rows to which it comes.
 pub(crate) fn take_all_shown<O: Sink>(
-    room: &mut RowRoom,
+    room: &mut RowPrinter,
     plan: &Plan,
     node: &mut Node,
     transit: &mut Vec<Fact>,

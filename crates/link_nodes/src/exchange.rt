@@ -6,7 +6,7 @@ ghost use Rattle.link_nodes.specs.Exchanges.{ExchangeComes, IsExchange, exchange
 ghost use Rattle.link_nodes.specs.Rounds.{after_round, closing_events, to_first, to_second};
 
 use crate::arriving::{take_all, take_all_shown, work_shown};
-use crate::row_room::RowRoom;
+use crate::row_room::RowPrinter;
 use crate::spans::Spans;
 use crate::transit::{Round, send};
 use cosim_io::Sink;
@@ -25,7 +25,7 @@ pub(crate) struct Exchange {
     pub(crate) first_spans: Spans,
     pub(crate) second_spans: Spans,
     pub(crate) transit: Vec<Fact>,
-    pub(crate) room: RowRoom,
+    pub(crate) room: RowPrinter,
 }
 
 impl Exchange {

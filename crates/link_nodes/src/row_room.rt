@@ -36,15 +36,15 @@ fn comes(going: bool, taken: Taken) -> bool
 
 /// What rows are written with: one writer for all of them, and a buffer for the text of one.
 #[derive(Drop)]
-pub(crate) struct RowRoom {
+pub(crate) struct RowPrinter {
     writer: RowWriter,
     line: Vec<u8>,
 }
 
-impl RowRoom {
+impl RowPrinter {
     /// Returns a value that takes no memory yet: `alloc` is where its memory comes from later.
-    pub(crate) fn new(alloc: Global) -> RowRoom {
-        RowRoom {
+    pub(crate) fn new(alloc: Global) -> RowPrinter {
+        RowPrinter {
             writer: RowWriter::new(alloc),
             line: Vec::new(alloc),
         }

@@ -6,7 +6,7 @@ ghost use Rattle.link_nodes.specs.Shown.{BeginsRounds, ShowsRounds, told_of};
 ghost use Rattle.trace_rows.specs.Faults.{TellsFault};
 
 use crate::exchange::Exchange;
-use crate::row_room::{RowRoom, judged};
+use crate::row_room::{RowPrinter, judged};
 use crate::spans::Spans;
 use crate::transit::Round;
 use cosim_io::Sink;
@@ -43,7 +43,7 @@ fn exchange_of(alloc: Global, plan: Arc<Plan>) -> Result<Exchange, NoMemory>
         first_spans: Spans::new(alloc),
         second_spans: Spans::new(alloc),
         transit: Vec::new(alloc),
-        room: RowRoom::new(alloc),
+        room: RowPrinter::new(alloc),
     })
 }
 

@@ -13,8 +13,8 @@ use Rattle.nest_text.specs.Reading.{AddsLine, AddsLines, Gathers, GroupsAnswer, 
 use Rattle.nest_text.specs.declared.fault.NestFault.{NestFault}
 use Rattle.nest_text.specs.declared.fault.NestFault.TheVariants as fault
 use Rattle.nest_text.specs.declared.groups.Body.{Body}
-use Rattle.nest_text.specs.declared.kind.Kind.{Kind}
-use Rattle.nest_text.specs.declared.kind.Kind.TheVariants as kinds
+use Rattle.nest_text.specs.declared.kind.LineKind.{LineKind}
+use Rattle.nest_text.specs.declared.kind.LineKind.TheVariants as kinds
 use Rattle.nest_text.specs.declared.nest.Group.{Group}
 use Rattle.nest_text.proofs.LineWalks.{lines_there, next_line, none_left, of_lines}
 use Rattle.nest_text.proofs.TextCuts.{IsWhole, are_whole}
@@ -23,7 +23,7 @@ use Rattle.text_laws.proofs.WholeLines.{line_more}
 -- ---- One more line
 
 -- a line that begins no group is the first of those before the first group
-pub not_begun : (line : SourceLine) (kind : Kind) (behind : Parted) → ((name : List ℕ) → kind ≡ kinds.Begins name → ⊥)
+pub not_begun : (line : SourceLine) (kind : LineKind) (behind : Parted) → ((name : List ℕ) → kind ≡ kinds.Begins name → ⊥)
     → with_line line kind behind ≡ record { front = line ∷ behind.front; groups = behind.groups }
 not_begun line (kinds.Begins name) behind not = absurd (not name refl)
 not_begun line kinds.Main behind not = refl
@@ -35,10 +35,10 @@ not_begun line kinds.Connects behind not = refl
 not_begun line kinds.Blank behind not = refl
 not_begun line kinds.Other behind not = refl
 
-pub begun_not : (kind : Kind) → begins_group kind ≡ false → (name : List ℕ) → kind ≡ kinds.Begins name → ⊥
+pub begun_not : (kind : LineKind) → begins_group kind ≡ false → (name : List ℕ) → kind ≡ kinds.Begins name → ⊥
 begun_not kind is name begins = absurd (let told = ap begins_group begins in cc)
 
-pub begun_by : (kind : Kind) → begins_group kind ≡ true → (name : List ℕ) × (kind ≡ kinds.Begins name)
+pub begun_by : (kind : LineKind) → begins_group kind ≡ true → (name : List ℕ) × (kind ≡ kinds.Begins name)
 begun_by (kinds.Begins name) is = (name, refl)
 begun_by kinds.Main is = absurd (cc)
 begun_by (kinds.In bind) is = absurd (cc)
@@ -49,10 +49,10 @@ begun_by kinds.Connects is = absurd (cc)
 begun_by kinds.Blank is = absurd (cc)
 begun_by kinds.Other is = absurd (cc)
 
-pub not_named : (kind : Kind) → name_begun kind ≡ None → (name : List ℕ) → kind ≡ kinds.Begins name → ⊥
+pub not_named : (kind : LineKind) → name_begun kind ≡ None → (name : List ℕ) → kind ≡ kinds.Begins name → ⊥
 not_named kind is name begins = absurd (none-some name (sym is ∙ ap name_begun begins))
 
-pub named_by : (kind : Kind) (name : List ℕ) → name_begun kind ≡ Some name → kind ≡ kinds.Begins name
+pub named_by : (kind : LineKind) (name : List ℕ) → name_begun kind ≡ Some name → kind ≡ kinds.Begins name
 named_by (kinds.Begins given) name is = ap kinds.Begins (same_Some given name is)
 named_by kinds.Main name is = absurd (cc)
 named_by (kinds.In bind) name is = absurd (cc)
@@ -114,7 +114,7 @@ gather_begin text before body =
       shorter = omega arith;
     }
 
-pub gather_next : (text : List ℕ) (before : ℕ) (old : Body) (rest line behind : List ℕ) (number : ℕ) (kind : Kind) (middle new : Body)
+pub gather_next : (text : List ℕ) (before : ℕ) (old : Body) (rest line behind : List ℕ) (number : ℕ) (kind : LineKind) (middle new : Body)
     → GatheredSoFar text before old rest number middle → lines_of rest ≡ line ∷ lines_of behind → length behind < length rest
     → IsKind (without_return line) kind → ((name : List ℕ) → kind ≡ kinds.Begins name → ⊥)
     → AddsLine middle new (record { number = number + 1; bytes = line; kind = kind }) → GatheredSoFar text before old behind (number + 1) new
@@ -174,7 +174,7 @@ is_gathered old new name head lines was adds = record {
   numbers = adds.numbers ∙ ap (λ all. all ++ flat_map kept_number lines) was.numbers;
 }
 
-kept_long : (line : SourceLine) (kind : Kind) (text : List ℕ) (count : List ℕ) → IsWhole line.bytes → length (lines_of text) ≡ length count
+kept_long : (line : SourceLine) (kind : LineKind) (text : List ℕ) (count : List ℕ) → IsWhole line.bytes → length (lines_of text) ≡ length count
     → length (lines_of (of_kept kind (line.bytes ++ 10 ∷ []) ++ text)) ≡ length (of_kept kind (line.number ∷ []) ++ count)
 kept_long line (kinds.In bind) text count whole same = same
 kept_long line (kinds.Out bind) text count whole same = same
@@ -194,7 +194,7 @@ body_long (line ∷ lines) whole = kept_long line line.kind (flat_map kept_text 
 pub given_long : (lines : GroupLines) → AllByRecursion (λ line. IsWhole line.bytes) lines.body → length (lines_of (given lines)) ≡ length (numbers lines)
 given_long lines whole = ap length (line_more (codes "cosim 1") (flat_map kept_text lines.body) refl) ∙ ap suc (body_long lines.body whole)
 
-front_by : (P : SourceLine → Type 0) (line : SourceLine) (kind : Kind) (behind : Parted) → P line → AllByRecursion P behind.front
+front_by : (P : SourceLine → Type 0) (line : SourceLine) (kind : LineKind) (behind : Parted) → P line → AllByRecursion P behind.front
     → AllByRecursion P (with_line line kind behind).front
 front_by P line (kinds.Begins name) behind one all = tt
 front_by P line kinds.Main behind one all = (one, all)
@@ -210,7 +210,7 @@ front_keeps : (P : SourceLine → Type 0) (lines : List SourceLine) → AllByRec
 front_keeps P [] all = tt
 front_keeps P (line ∷ lines) all = front_by P line line.kind (parted lines) all.0 (front_keeps P lines all.1)
 
-groups_by : (P : SourceLine → Type 0) (line : SourceLine) (kind : Kind) (behind : Parted) → AllByRecursion P behind.front
+groups_by : (P : SourceLine → Type 0) (line : SourceLine) (kind : LineKind) (behind : Parted) → AllByRecursion P behind.front
     → AllByRecursion (λ group. AllByRecursion P group.body) behind.groups
     → AllByRecursion (λ group. AllByRecursion P group.body) (with_line line kind behind).groups
 groups_by P line (kinds.Begins name) behind front all = (front, all)
@@ -259,7 +259,7 @@ read_begin text =
     }
 
 -- a line before the first group
-pub read_next : (text rest line behind : List ℕ) (number : ℕ) (kind : Kind) (made : List Group) (heads : List ℕ) → ReadSoFar text rest number made heads
+pub read_next : (text rest line behind : List ℕ) (number : ℕ) (kind : LineKind) (made : List Group) (heads : List ℕ) → ReadSoFar text rest number made heads
     → lines_of rest ≡ line ∷ lines_of behind → length behind < length rest → IsKind (without_return line) kind
     → ((name : List ℕ) → kind ≡ kinds.Begins name → ⊥) → ReadSoFar text behind (number + 1) made heads
 read_next text rest line behind number kind made heads so_far cut shorter is not =
@@ -315,7 +315,7 @@ pub record GroupAhead (text : List ℕ) (number : ℕ) (name : List ℕ) (behind
   pub heads_are : heads ≡ map (λ group. group.head) done
   pub within : number + length behind ≤ length text
 
-pub group_ahead : (text rest line behind : List ℕ) (number : ℕ) (kind : Kind) (name : List ℕ) (made : List Group) (heads : List ℕ)
+pub group_ahead : (text rest line behind : List ℕ) (number : ℕ) (kind : LineKind) (name : List ℕ) (made : List Group) (heads : List ℕ)
     → ReadSoFar text rest number made heads → lines_of rest ≡ line ∷ lines_of behind → length behind < length rest → IsKind (without_return line) kind
     → kind ≡ kinds.Begins name → GroupAhead text (number + 1) name behind made heads
 group_ahead text rest line behind number kind name made heads so_far cut shorter is begins =

@@ -17,11 +17,11 @@ use Rattle.unit_tree.specs.declared.token.Token.{Token}
 use Rattle.unit_tree.specs.declared.token.Token.TheVariants as token
 use Rattle.nest_text.specs.NestLines.{HasKind, IsKind, group_tokens, in_tokens, main_tokens, out_tokens}
 use Rattle.nest_text.specs.Reading.{connects, ends, group_kind, in_kind, keyword_kind, kind_of, main_kind, named_kind, opens, out_kind}
-use Rattle.nest_text.specs.declared.kind.Kind.{Kind}
-use Rattle.nest_text.specs.declared.kind.Kind.TheVariants as kinds
+use Rattle.nest_text.specs.declared.kind.LineKind.{LineKind}
+use Rattle.nest_text.specs.declared.kind.LineKind.TheVariants as kinds
 
 -- A line has the kind, unless the kind is `Other`.
-abbrev Told : List ℕ → Kind → Type 0
+abbrev Told : List ℕ → LineKind → Type 0
 Told line kind = HasKind line kind ⊎ (kind ≡ kinds.Other)
 
 -- The line spells the tokens.
@@ -46,7 +46,7 @@ out_told : (line : List ℕ) (rest : List Token) → Spelled line (token.Name (c
 out_told line (token.Name port ∷ token.Symbol sign.Is ∷ token.Name instance ∷ token.Symbol sign.Point ∷ token.Name inner ∷ []) spelled = inl spelled
 out_told line _ spelled = inr refl
 
-either_told : (line : List ℕ) (test : Bool) (one other : Kind) → (test ≡ true → Told line one) → Told line other → Told line (if test then one else other)
+either_told : (line : List ℕ) (test : Bool) (one other : LineKind) → (test ≡ true → Told line one) → Told line other → Told line (if test then one else other)
 either_told line true one second if_so if_not = if_so refl
 either_told line false one second if_so if_not = if_not
 
@@ -112,12 +112,12 @@ written_bare : (some : LineForm) (tokens : List Token) (written : WritesForm som
 written_bare some tokens written none = written.spelled ∙ ap (λ tail. front_tokens some ++ tail) none ∙ append-nil (front_tokens some)
 
 -- A line of a kind spells tokens that give the kind.
-record Tells (line : List ℕ) (kind : Kind) : Type 0 where
+record Tells (line : List ℕ) (kind : LineKind) : Type 0 where
   tokens : List Token
   spelled : Spelled line tokens
   told : kind_of tokens ≡ kind
 
-tells : (line : List ℕ) (kind : Kind) → HasKind line kind → Tells line kind
+tells : (line : List ℕ) (kind : LineKind) → HasKind line kind → Tells line kind
 tells line (kinds.Begins name) has = record { tokens = group_tokens name; spelled = has; told = refl }
 tells line kinds.Main has = record { tokens = main_tokens; spelled = has; told = refl }
 tells line (kinds.In bind) has = record { tokens = in_tokens bind; spelled = has; told = refl }
@@ -131,7 +131,7 @@ tells line kinds.Connects (wire, has) =
 tells line kinds.Blank has = record { tokens = []; spelled = has; told = refl }
 tells line kinds.Other has = absurd has
 
-kind_only : (line : List ℕ) (kind : Kind) (tokens : List Token) → Spelled line tokens → HasKind line kind → kind_of tokens ≡ kind
+kind_only : (line : List ℕ) (kind : LineKind) (tokens : List Token) → Spelled line tokens → HasKind line kind → kind_of tokens ≡ kind
 kind_only line kind tokens spelled has =
     let told = tells line kind has in
     ap kind_of (spells_one tokens told.tokens (code_of line) spelled told.spelled) ∙ told.told
@@ -150,7 +150,7 @@ kind_spelled line tokens spelled = kind_by line tokens spelled (kind_told line t
 pub kind_unspelled : (line : List ℕ) → ((tokens : List Token) → Spells tokens (code_of line) → ⊥) → IsKind line kinds.Other
 kind_unspelled line none = inr (refl, λ some has. let told = tells line some has in none told.tokens told.spelled)
 
-pub kind_once : (line : List ℕ) (one other : Kind) → IsKind line one → IsKind line other → one ≡ other
+pub kind_once : (line : List ℕ) (one other : LineKind) → IsKind line one → IsKind line other → one ≡ other
 kind_once line one second (inl a) (inl b) =
     let told = tells line one a in
     sym told.told ∙ kind_only line second told.tokens told.spelled b
@@ -158,11 +158,11 @@ kind_once line one second (inl a) (inr (is, none)) = absurd (none one a)
 kind_once line one second (inr (is, none)) (inl b) = absurd (none second b)
 kind_once line one second (inr (is, none)) (inr (are, nothing)) = is ∙ sym are
 
-kind_found : (line : List ℕ) (found : Option (List Token)) → TokensAre (code_of line) found → (kind : Kind) × IsKind line kind
+kind_found : (line : List ℕ) (found : Option (List Token)) → TokensAre (code_of line) found → (kind : LineKind) × IsKind line kind
 kind_found line None none = (kinds.Other, kind_unspelled line none)
 kind_found line (Some tokens) spelled = (kind_of tokens, kind_spelled line tokens spelled)
 
-pub kind_there : (line : List ℕ) → (kind : Kind) × IsKind line kind
+pub kind_there : (line : List ℕ) → (kind : LineKind) × IsKind line kind
 kind_there line =
     let found = tokens_decided (code_of line) in
     kind_found line found.0 found.1

@@ -6,9 +6,9 @@ use Rattle.std.specs.List.{AllZip, enumerate_from}
 use Rattle.unit_tree.specs.Lines.{lines_of, without_return}
 use Rattle.nest_text.specs.NestLines.{AreLines, IsKind, IsLine, SourceLine, are_placed, may_stand, place_after, place_behind}
 use Rattle.nest_text.specs.Reading.{OfLines, first_stray}
-use Rattle.nest_text.specs.declared.kind.Kind.{Kind}
-use Rattle.nest_text.specs.declared.place.Place.{Place}
-use Rattle.nest_text.specs.declared.place.Place.TheVariants.{BeforeParts}
+use Rattle.nest_text.specs.declared.kind.LineKind.{LineKind}
+use Rattle.nest_text.specs.declared.place.PartPlace.{PartPlace}
+use Rattle.nest_text.specs.declared.place.PartPlace.TheVariants.{BeforeParts}
 use Rattle.nest_text.proofs.KindLaws.{kind_once, kind_there}
 
 -- ---- Each text has one list of lines
@@ -48,12 +48,12 @@ of_lines first text Says lines are said = λ others also. subst Says (same_lines
 -- ---- A line that is split off
 
 -- The first of the lines is this one, of this kind, and the others are those of the text after it.
-pub record NextLine (first : ℕ) (line behind : List ℕ) (kind : Kind) (lines : List SourceLine) : Type 0 where
+pub record NextLine (first : ℕ) (line behind : List ℕ) (kind : LineKind) (lines : List SourceLine) : Type 0 where
   pub others : List SourceLine
   pub cut : lines ≡ record { number = first; bytes = line; kind = kind } ∷ others
   pub are_others : AreLines (first + 1) behind others
 
-next_of : (first : ℕ) (line behind : List ℕ) (kind : Kind) (lines : List SourceLine) → IsKind (without_return line) kind
+next_of : (first : ℕ) (line behind : List ℕ) (kind : LineKind) (lines : List SourceLine) → IsKind (without_return line) kind
     → AllZip IsLine ((first, line) ∷ enumerate_from (first + 1) (lines_of behind)) lines → NextLine first line behind kind lines
 next_of first line behind kind [] is are = absurd are
 next_of first line behind kind (one ∷ others) is are = record {
@@ -63,7 +63,7 @@ next_of first line behind kind (one ∷ others) is are = record {
   are_others = are.1;
 }
 
-pub next_line : (first : ℕ) (text line behind : List ℕ) (kind : Kind) (lines : List SourceLine) → lines_of text ≡ line ∷ lines_of behind
+pub next_line : (first : ℕ) (text line behind : List ℕ) (kind : LineKind) (lines : List SourceLine) → lines_of text ≡ line ∷ lines_of behind
     → IsKind (without_return line) kind → AreLines first text lines → NextLine first line behind kind lines
 next_line first text line behind kind lines cut is are =
     next_of first line behind kind lines is (subst (λ all. AllZip IsLine (enumerate_from first all) lines) cut are)
@@ -76,7 +76,7 @@ none_left first (byte ∷ text) lines none are = absurd (omega (arith, none))
 -- ---- Lines that are not allowed where they are
 
 -- The first line that is not allowed is the first of those that are left.
-pub record StraysLeft (text rest : List ℕ) (number : ℕ) (place : Place) : Type 0 where
+pub record StraysLeft (text rest : List ℕ) (number : ℕ) (place : PartPlace) : Type 0 where
   pub lines : List SourceLine
   pub are_lines : AreLines 1 text lines
   pub left : List SourceLine
@@ -89,7 +89,7 @@ strays_begin text =
     let all = lines_there 1 text in
     record { lines = all.0; are_lines = all.1; left = all.0; are_left = all.1; same = refl; within = omega arith }
 
-pub stray_next : (text rest line behind : List ℕ) (number : ℕ) (place : Place) (kind : Kind) → StraysLeft text rest number place
+pub stray_next : (text rest line behind : List ℕ) (number : ℕ) (place : PartPlace) (kind : LineKind) → StraysLeft text rest number place
     → lines_of rest ≡ line ∷ lines_of behind → length behind < length rest → IsKind (without_return line) kind → may_stand place kind ≡ true
     → StraysLeft text behind (number + 1) (place_after place kind)
 stray_next text rest line behind number place kind so_far cut shorter is stands =
@@ -105,7 +105,7 @@ stray_next text rest line behind number place kind so_far cut shorter is stands 
       within = omega (arith, within, shorter);
     }
 
-pub stray_found : (text rest line behind : List ℕ) (number : ℕ) (place : Place) (kind : Kind) → StraysLeft text rest number place
+pub stray_found : (text rest line behind : List ℕ) (number : ℕ) (place : PartPlace) (kind : LineKind) → StraysLeft text rest number place
     → lines_of rest ≡ line ∷ lines_of behind → IsKind (without_return line) kind → may_stand place kind ≡ false
     → OfLines 1 text (λ lines. Some (number + 1) ≡ first_stray BeforeParts lines)
 stray_found text rest line behind number place kind so_far cut is strays =
@@ -115,7 +115,7 @@ stray_found text rest line behind number place kind so_far cut is strays =
     so_far.same ∙ ap (first_stray place) next.cut
     ∙ ap (λ test. if test then first_stray (place_after place kind) next.others else Some (number + 1)) strays))
 
-pub stray_none : (text rest : List ℕ) (number : ℕ) (place : Place) → StraysLeft text rest number place → length rest ≡ 0
+pub stray_none : (text rest : List ℕ) (number : ℕ) (place : PartPlace) → StraysLeft text rest number place → length rest ≡ 0
     → OfLines 1 text (λ lines. None ≡ first_stray BeforeParts lines)
 stray_none text rest number place so_far none =
     of_lines 1 text (λ lines. None ≡ first_stray BeforeParts lines) so_far.lines so_far.are_lines
@@ -124,7 +124,7 @@ stray_none text rest number place so_far none =
 -- ---- The first line that is not allowed
 
 -- After a place, the line with this number is the first that is not allowed where it is.
-pub record StraysBehind (place : Place) (lines : List SourceLine) (number : ℕ) : Type 0 where
+pub record StraysBehind (place : PartPlace) (lines : List SourceLine) (number : ℕ) : Type 0 where
   pub before : List SourceLine
   pub line : SourceLine
   pub later : List SourceLine
@@ -136,8 +136,8 @@ pub record StraysBehind (place : Place) (lines : List SourceLine) (number : ℕ)
 same_some : {A : Type 0} (x y : A) → Some x ≡ Some y → x ≡ y
 same_some x y is = cc
 
-stray_by : (place : Place) (line : SourceLine) (lines : List SourceLine) (number : ℕ) (test : Bool) → may_stand place line.kind ≡ test
-    → ((after : Place) → first_stray after lines ≡ Some number → StraysBehind after lines number)
+stray_by : (place : PartPlace) (line : SourceLine) (lines : List SourceLine) (number : ℕ) (test : Bool) → may_stand place line.kind ≡ test
+    → ((after : PartPlace) → first_stray after lines ≡ Some number → StraysBehind after lines number)
     → (if test then first_stray (place_after place line.kind) lines else Some line.number) ≡ Some number → StraysBehind place (line ∷ lines) number
 stray_by place line lines number true stands later is =
     let found = later (place_after place line.kind) is in
@@ -160,18 +160,18 @@ stray_by place line lines number false stands later is = record {
   is_number = sym (same_some line.number number is);
 }
 
-pub strays_at : (place : Place) (lines : List SourceLine) (number : ℕ) → first_stray place lines ≡ Some number → StraysBehind place lines number
+pub strays_at : (place : PartPlace) (lines : List SourceLine) (number : ℕ) → first_stray place lines ≡ Some number → StraysBehind place lines number
 strays_at place [] number is = absurd (cc)
 strays_at place (line ∷ lines) number is =
     stray_by place line lines number (may_stand place line.kind) refl (λ after found. strays_at after lines number found) is
 
-placed_by : (place : Place) (line : SourceLine) (lines : List SourceLine) (test : Bool) → may_stand place line.kind ≡ test
-    → ((after : Place) → first_stray after lines ≡ None → are_placed after lines ≡ true)
+placed_by : (place : PartPlace) (line : SourceLine) (lines : List SourceLine) (test : Bool) → may_stand place line.kind ≡ test
+    → ((after : PartPlace) → first_stray after lines ≡ None → are_placed after lines ≡ true)
     → (if test then first_stray (place_after place line.kind) lines else Some line.number) ≡ None → are_placed place (line ∷ lines) ≡ true
 placed_by place line lines true stands later is =
     ap (λ test. test && are_placed (place_after place line.kind) lines) stands ∙ later (place_after place line.kind) is
 placed_by place line lines false stands later is = absurd (cc)
 
-pub none_strays : (place : Place) (lines : List SourceLine) → first_stray place lines ≡ None → are_placed place lines ≡ true
+pub none_strays : (place : PartPlace) (lines : List SourceLine) → first_stray place lines ≡ None → are_placed place lines ≡ true
 none_strays place [] is = refl
 none_strays place (line ∷ lines) is = placed_by place line lines (may_stand place line.kind) refl (λ after none. none_strays after lines none) is

@@ -17,12 +17,12 @@ use Rattle.unit_text.proofs.KnownForms.{known}
 use Rattle.nest_text.specs.NestLines.{SourceLine, are_placed, may_stand, place_after, place_behind}
 use Rattle.nest_text.specs.Nests.{BreaksParts, GroupLines, IsCut, IsGroupOf, IsNestOf, IsRead, RefusesGroup, RefusesGroups, RefusesMain, RefusesNest, RefusesPart}
 use Rattle.nest_text.specs.Nests.{StraysAt, given, groups_of, has_main, is_main, numbers}
-use Rattle.nest_text.specs.declared.kind.Kind.{Kind}
-use Rattle.nest_text.specs.declared.kind.Kind.TheVariants as kinds
+use Rattle.nest_text.specs.declared.kind.LineKind.{LineKind}
+use Rattle.nest_text.specs.declared.kind.LineKind.TheVariants as kinds
 use Rattle.nest_text.specs.declared.nest.Group.{Group}
 use Rattle.nest_text.specs.declared.nest.Nest.{Nest}
-use Rattle.nest_text.specs.declared.place.Place.{Place}
-use Rattle.nest_text.specs.declared.place.Place.TheVariants as places
+use Rattle.nest_text.specs.declared.place.PartPlace.{PartPlace}
+use Rattle.nest_text.specs.declared.place.PartPlace.TheVariants as places
 use Rattle.nest_text.proofs.GroupWalks.{groups_read}
 use Rattle.nest_text.proofs.LineWalks.{same_lines}
 
@@ -50,7 +50,7 @@ refused_same one other number rule same refused = subst (LinesRefused number rul
 
 -- ---- One cut
 
-stays : (kind : Kind) → may_stand places.InMain kind ≡ true → is_main kind ≡ false
+stays : (kind : LineKind) → may_stand places.InMain kind ≡ true → is_main kind ≡ false
 stays kinds.Main is = absurd (cc)
 stays (kinds.Begins name) is = refl
 stays (kinds.In bind) is = refl
@@ -67,7 +67,7 @@ no_second (line ∷ lines) placed =
     let both = and_parts (may_stand places.InMain line.kind) (are_placed places.InMain lines) placed in
     ap (λ test. test || has_main lines) (stays line.kind both.0) ∙ no_second lines both.1
 
-after_main : (place : Place) → place_after place kinds.Main ≡ places.InMain
+after_main : (place : PartPlace) → place_after place kinds.Main ≡ places.InMain
 after_main places.BeforeParts = refl
 after_main places.InGroup = refl
 after_main places.InBlock = refl
@@ -78,7 +78,7 @@ main_among front main later is =
     any_behind (λ (line : SourceLine). is_main line.kind) front (main ∷ later) (ap (λ kind. is_main kind || has_main later) is)
 
 -- after a line `main` that is allowed there is no other one
-main_alone : (place : Place) (main : SourceLine) (later front : List SourceLine) (second : SourceLine) (rest : List SourceLine)
+main_alone : (place : PartPlace) (main : SourceLine) (later front : List SourceLine) (second : SourceLine) (rest : List SourceLine)
     → are_placed place (main ∷ later) ≡ true → main.kind ≡ kinds.Main → second.kind ≡ kinds.Main → later ≡ front ++ (second ∷ rest) → ⊥
 main_alone place main later front second rest placed is also cut =
     let both = and_parts (may_stand place main.kind) (are_placed (place_after place main.kind) later) placed in
@@ -90,7 +90,7 @@ record SameCut (front : List SourceLine) (main : SourceLine) (later front' : Lis
   mains : main ≡ main'
   laters : later ≡ later'
 
-cut_once : (place : Place) (front : List SourceLine) (main : SourceLine) (later front' : List SourceLine) (main' : SourceLine) (later' : List SourceLine)
+cut_once : (place : PartPlace) (front : List SourceLine) (main : SourceLine) (later front' : List SourceLine) (main' : SourceLine) (later' : List SourceLine)
     → are_placed place (front ++ (main ∷ later)) ≡ true → main.kind ≡ kinds.Main → main'.kind ≡ kinds.Main
     → front ++ (main ∷ later) ≡ front' ++ (main' ∷ later') → SameCut front main later front' main' later'
 cut_once place [] main later [] main' later' placed is also same =
@@ -154,14 +154,14 @@ one_nest text one other first second =
 
 -- ---- One line that is not allowed
 
-placed_at : (place : Place) (before : List SourceLine) (line : SourceLine) (later : List SourceLine) → are_placed place (before ++ (line ∷ later)) ≡ true
+placed_at : (place : PartPlace) (before : List SourceLine) (line : SourceLine) (later : List SourceLine) → are_placed place (before ++ (line ∷ later)) ≡ true
     → may_stand (place_behind place before) line.kind ≡ true
 placed_at place [] line later placed = (and_parts (may_stand place line.kind) (are_placed (place_after place line.kind) later) placed).0
 placed_at place (one ∷ before) line later placed =
     placed_at (place_after place one.kind) before line later
     (and_parts (may_stand place one.kind) (are_placed (place_after place one.kind) (before ++ (line ∷ later))) placed).1
 
-stray_once : (place : Place) (before : List SourceLine) (line : SourceLine) (later before' : List SourceLine) (line' : SourceLine) (later' : List SourceLine)
+stray_once : (place : PartPlace) (before : List SourceLine) (line : SourceLine) (later before' : List SourceLine) (line' : SourceLine) (later' : List SourceLine)
     → are_placed place before ≡ true → may_stand (place_behind place before) line.kind ≡ false → are_placed place before' ≡ true
     → may_stand (place_behind place before') line'.kind ≡ false → before ++ (line ∷ later) ≡ before' ++ (line' ∷ later') → line ≡ line'
 stray_once place [] line later [] line' later' placed strays also too same = same_first line line' later later' same

@@ -15,10 +15,10 @@ use Rattle.nest_text.specs.Laws.{NestsAreReadOnce}
 use Rattle.nest_text.specs.NestLines.{AreLines, SourceLine, are_placed}
 use Rattle.nest_text.specs.Nests.{GroupLines, IsCut, IsGroupOf, IsNestOf, RefusesGroups, RefusesNest, given, groups_of, has_main, in_on, is_main, numbers, out_on}
 use Rattle.nest_text.specs.Reading.{first_stray}
-use Rattle.nest_text.specs.declared.kind.Kind.TheVariants as kinds
+use Rattle.nest_text.specs.declared.kind.LineKind.TheVariants as kinds
 use Rattle.nest_text.specs.declared.nest.Group.{Group}
 use Rattle.nest_text.specs.declared.nest.Nest.{Nest}
-use Rattle.nest_text.specs.declared.place.Place.TheVariants.{BeforeParts}
+use Rattle.nest_text.specs.declared.place.PartPlace.TheVariants.{BeforeParts}
 use Rattle.nest_text.proofs.GroupWalks.{given_long, groups_keep, groups_read}
 use Rattle.nest_text.proofs.LineWalks.{lines_there, none_strays, strays_at}
 use Rattle.nest_text.proofs.NestsOnce.{not_both, one_nest, one_refusal}

@@ -14,9 +14,9 @@ use Rattle.unit_tree.specs.Lines.{lines_of, without_return}
 use Rattle.nest_text.specs.NestLines.{AreLines, IsKind, IsLine, SourceLine}
 use Rattle.nest_text.specs.Nests.{BreaksParts, IsCut, has_main, is_main}
 use Rattle.nest_text.specs.Reading.{CutsText, HasMainAt, OfLines, first_stray}
-use Rattle.nest_text.specs.declared.kind.Kind.{Kind}
-use Rattle.nest_text.specs.declared.kind.Kind.TheVariants as kinds
-use Rattle.nest_text.specs.declared.place.Place.TheVariants.{BeforeParts}
+use Rattle.nest_text.specs.declared.kind.LineKind.{LineKind}
+use Rattle.nest_text.specs.declared.kind.LineKind.TheVariants as kinds
+use Rattle.nest_text.specs.declared.place.PartPlace.TheVariants.{BeforeParts}
 use Rattle.nest_text.proofs.LineWalks.{lines_there, next_line, none_left, none_strays, of_lines, strays_at}
 
 -- ---- Lines and their ends
@@ -143,7 +143,7 @@ none_more : (front : List SourceLine) (one : SourceLine) → has_main front ≡ 
 none_more [] one none is = ap (λ test. test || false) is
 none_more (line ∷ front) one none is = none_by (is_main line.kind) front one (λ later. none_more front one later is) none
 
-pub main_next : (text rest line behind : List ℕ) (number : ℕ) (kind : Kind) → MainLeft text rest number → lines_of rest ≡ line ∷ lines_of behind
+pub main_next : (text rest line behind : List ℕ) (number : ℕ) (kind : LineKind) → MainLeft text rest number → lines_of rest ≡ line ∷ lines_of behind
     → IsCutOff rest line behind → length behind < length rest → IsKind (without_return line) kind → is_main kind ≡ false
     → MainLeft text behind (number + 1)
 main_next text rest line behind number kind so_far cut off shorter is other =
@@ -171,7 +171,7 @@ front_is text rest front (inl is) some =
     let count : length text - length rest ≡ length done = omega (arith, long, length-append done rest) in
     ap₂ (λ n all. take n all) count is ∙ take-append_seam done rest
 
-pub main_kind : (kind : Kind) → is_main kind ≡ true → kind ≡ kinds.Main
+pub main_kind : (kind : LineKind) → is_main kind ≡ true → kind ≡ kinds.Main
 main_kind kinds.Main is = refl
 main_kind (kinds.Begins name) is = absurd (cc)
 main_kind (kinds.In bind) is = absurd (cc)
@@ -182,7 +182,7 @@ main_kind kinds.Connects is = absurd (cc)
 main_kind kinds.Blank is = absurd (cc)
 main_kind kinds.Other is = absurd (cc)
 
-pub main_found : (text rest line behind front : List ℕ) (number : ℕ) (kind : Kind) → MainLeft text rest number → lines_of rest ≡ line ∷ lines_of behind
+pub main_found : (text rest line behind front : List ℕ) (number : ℕ) (kind : LineKind) → MainLeft text rest number → lines_of rest ≡ line ∷ lines_of behind
     → length behind < length rest → IsKind (without_return line) kind → is_main kind ≡ true → front ≡ take (length text - length rest) text
     → OfLines 1 text (λ lines. HasMainAt lines front (number + 1) behind)
 main_found text rest line behind front number kind so_far cut shorter is main front_cut =

@@ -13,11 +13,11 @@ use Rattle.unit_tree.specs.declared.system.Wire.{Wire}
 use Rattle.unit_tree.specs.declared.token.Symbol.TheVariants as sign
 use Rattle.unit_tree.specs.declared.token.Token.{Token}
 use Rattle.unit_tree.specs.declared.token.Token.TheVariants as token
-use Rattle.nest_text.specs.declared.kind.Kind.{Kind}
-use Rattle.nest_text.specs.declared.kind.Kind.TheVariants as kinds
+use Rattle.nest_text.specs.declared.kind.LineKind.{LineKind}
+use Rattle.nest_text.specs.declared.kind.LineKind.TheVariants as kinds
 use Rattle.nest_text.specs.declared.nest.Bind.{Bind}
-use Rattle.nest_text.specs.declared.place.Place.{Place}
-use Rattle.nest_text.specs.declared.place.Place.TheVariants as places
+use Rattle.nest_text.specs.declared.place.PartPlace.{PartPlace}
+use Rattle.nest_text.specs.declared.place.PartPlace.TheVariants as places
 
 -- ---- Kinds
 
@@ -35,7 +35,7 @@ abbrev pub out_tokens : Bind → List Token
 out_tokens bind = token.Name (codes "out") ∷ token.Name bind.port ∷ symbol sign.Is ∷ port_tokens bind.inner
 
 -- The line, without its end, has the kind, which is not `Other`.
-abbrev pub HasKind : List ℕ → Kind → Type 0
+abbrev pub HasKind : List ℕ → LineKind → Type 0
 HasKind line (kinds.Begins name) = Spells (group_tokens name) (code_of line)
 HasKind line kinds.Main = Spells main_tokens (code_of line)
 HasKind line (kinds.In bind) = Spells (in_tokens bind) (code_of line)
@@ -47,13 +47,13 @@ HasKind line kinds.Blank = IsTrue (is_blank_line line)
 HasKind line kinds.Other = ⊥
 
 -- Each line has one kind: it is `Other` where it has no other kind.
-abbrev pub IsKind : List ℕ → Kind → Type 0
-IsKind line kind = HasKind line kind ⊎ ((kind ≡ kinds.Other) × ((some : Kind) → HasKind line some → ⊥))
+abbrev pub IsKind : List ℕ → LineKind → Type 0
+IsKind line kind = HasKind line kind ⊎ ((kind ≡ kinds.Other) × ((some : LineKind) → HasKind line some → ⊥))
 
 -- ---- Places
 
 -- The place after a line.
-abbrev pub place_after : Place → Kind → Place
+abbrev pub place_after : PartPlace → LineKind → PartPlace
 place_after places.InMain kind = places.InMain
 place_after place kinds.Main = places.InMain
 place_after place (kinds.Begins name) = places.InGroup
@@ -65,7 +65,7 @@ place_after place kind = place
 -- Whether a line is allowed there. Before the parts all lines are blank. A group has blank lines and lines of five
 -- kinds, but `in` and `out` lines only outside blocks. The reader of the language judges all that follows `main`,
 -- except that a second `main` is not allowed.
-abbrev pub may_stand : Place → Kind → Bool
+abbrev pub may_stand : PartPlace → LineKind → Bool
 may_stand places.InMain kinds.Main = false
 may_stand places.InMain kind = true
 may_stand place kinds.Blank = true
@@ -83,7 +83,7 @@ may_stand place kind = true
 pub record SourceLine : Type 0 where
   pub number : ℕ
   pub bytes : List ℕ
-  pub kind : Kind
+  pub kind : LineKind
 
 -- The line has this number, these bytes, and their kind. A CR belongs to the end of the line.
 pub record IsLine (numbered : ℕ × List ℕ) (line : SourceLine) : Type 0 where
@@ -96,11 +96,11 @@ abbrev pub AreLines : ℕ → List ℕ → List SourceLine → Type 0
 AreLines first text lines = AllZip IsLine (enumerate_from first (lines_of text)) lines
 
 -- Each line is allowed after those before it.
-abbrev pub are_placed : Place → List SourceLine → Bool
+abbrev pub are_placed : PartPlace → List SourceLine → Bool
 are_placed place [] = true
 are_placed place (line ∷ lines) = may_stand place line.kind && are_placed (place_after place line.kind) lines
 
 -- The place after lines that begin at the first place.
-abbrev pub place_behind : Place → List SourceLine → Place
+abbrev pub place_behind : PartPlace → List SourceLine → PartPlace
 place_behind place [] = place
 place_behind place (line ∷ lines) = place_behind (place_after place line.kind) lines

@@ -12,12 +12,12 @@ use Rattle.model_rules.specs.Limits.{text_limit}
 use Rattle.unit_tree.specs.Texts.{IsRefused, Reads}
 use Rattle.unit_tree.specs.declared.system.System.{System}
 use Rattle.nest_text.specs.NestLines.{AreLines, SourceLine, are_placed, may_stand, place_behind}
-use Rattle.nest_text.specs.declared.kind.Kind.{Kind}
-use Rattle.nest_text.specs.declared.kind.Kind.TheVariants as kinds
+use Rattle.nest_text.specs.declared.kind.LineKind.{LineKind}
+use Rattle.nest_text.specs.declared.kind.LineKind.TheVariants as kinds
 use Rattle.nest_text.specs.declared.nest.Bind.{Bind}
 use Rattle.nest_text.specs.declared.nest.Group.{Group}
 use Rattle.nest_text.specs.declared.nest.Nest.{Nest}
-use Rattle.nest_text.specs.declared.place.Place.TheVariants.{BeforeParts}
+use Rattle.nest_text.specs.declared.place.PartPlace.TheVariants.{BeforeParts}
 
 -- ---- Groups as lines
 
@@ -33,7 +33,7 @@ pub record Parted : Type 0 where
   pub groups : List GroupLines
 
 -- With one more line, before the others.
-abbrev pub with_line : SourceLine → Kind → Parted → Parted
+abbrev pub with_line : SourceLine → LineKind → Parted → Parted
 with_line line (kinds.Begins name) parted =
     record { front = []; groups = record { name = name; head = line.number; body = parted.front } ∷ parted.groups }
 with_line line kind parted = record { front = line ∷ parted.front; groups = parted.groups }
@@ -49,7 +49,7 @@ groups_of lines = (parted lines).groups
 -- ---- What the reader reads of a group
 
 -- What a line of such a kind adds for the reader: nothing where it is an `in` or `out` line.
-abbrev pub of_kept : {A : Type 0} → Kind → List A → List A
+abbrev pub of_kept : {A : Type 0} → LineKind → List A → List A
 of_kept (kinds.In bind) told = []
 of_kept (kinds.Out bind) told = []
 of_kept kind told = told
@@ -69,11 +69,11 @@ given group = codes "cosim 1\n" ++ flat_map kept_text group.body
 abbrev pub numbers : GroupLines → List ℕ
 numbers group = group.head ∷ flat_map kept_number group.body
 
-abbrev pub in_on : Kind → List Bind
+abbrev pub in_on : LineKind → List Bind
 in_on (kinds.In bind) = bind ∷ []
 in_on kind = []
 
-abbrev pub out_on : Kind → List Bind
+abbrev pub out_on : LineKind → List Bind
 out_on (kinds.Out bind) = bind ∷ []
 out_on kind = []
 
@@ -124,7 +124,7 @@ pub record StraysAt (lines : List SourceLine) (number : ℕ) : Type 0 where
   pub stray : IsFalse (may_stand (place_behind BeforeParts before) line.kind)
   pub is_number : number ≡ line.number
 
-abbrev pub is_main : Kind → Bool
+abbrev pub is_main : LineKind → Bool
 is_main kinds.Main = true
 is_main kind = false
 

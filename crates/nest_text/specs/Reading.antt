@@ -18,35 +18,35 @@ use Rattle.nest_text.specs.Nests.{given, groups_of, has_main, in_on, kept_number
 use Rattle.nest_text.specs.declared.fault.NestFault.{NestFault}
 use Rattle.nest_text.specs.declared.fault.NestFault.TheVariants as fault
 use Rattle.nest_text.specs.declared.groups.Body.{Body}
-use Rattle.nest_text.specs.declared.kind.Kind.{Kind}
-use Rattle.nest_text.specs.declared.kind.Kind.TheVariants as kinds
+use Rattle.nest_text.specs.declared.kind.LineKind.{LineKind}
+use Rattle.nest_text.specs.declared.kind.LineKind.TheVariants as kinds
 use Rattle.nest_text.specs.declared.nest.Group.{Group}
 use Rattle.nest_text.specs.declared.nest.Nest.{Nest}
-use Rattle.nest_text.specs.declared.place.Place.{Place}
-use Rattle.nest_text.specs.declared.place.Place.TheVariants.{BeforeParts}
+use Rattle.nest_text.specs.declared.place.PartPlace.{PartPlace}
+use Rattle.nest_text.specs.declared.place.PartPlace.TheVariants.{BeforeParts}
 
 -- ---- Kinds by tokens
 
 -- The kinds of lines that begin with `group`, `main`, `in` and `out`, from the tokens after that word.
-abbrev pub group_kind : List Token → Kind
+abbrev pub group_kind : List Token → LineKind
 group_kind (token.Name name ∷ []) = kinds.Begins name
 group_kind _ = kinds.Other
 
-abbrev pub main_kind : List Token → Kind
+abbrev pub main_kind : List Token → LineKind
 main_kind [] = kinds.Main
 main_kind _ = kinds.Other
 
-abbrev pub in_kind : List Token → Kind
+abbrev pub in_kind : List Token → LineKind
 in_kind (token.Name port ∷ token.Symbol sign.Arrow ∷ token.Name instance ∷ token.Symbol sign.Point ∷ token.Name inner ∷ []) =
     kinds.In (record { port = port; inner = record { instance = instance; port = inner } })
 in_kind _ = kinds.Other
 
-abbrev pub out_kind : List Token → Kind
+abbrev pub out_kind : List Token → LineKind
 out_kind (token.Name port ∷ token.Symbol sign.Is ∷ token.Name instance ∷ token.Symbol sign.Point ∷ token.Name inner ∷ []) =
     kinds.Out (record { port = port; inner = record { instance = instance; port = inner } })
 out_kind _ = kinds.Other
 
-abbrev pub named_kind : List ℕ → List Token → Kind
+abbrev pub named_kind : List ℕ → List Token → LineKind
 named_kind word rest =
     if bytes_eq word (codes "group") then group_kind rest else (
     if bytes_eq word (codes "main") then main_kind rest else (
@@ -54,36 +54,36 @@ named_kind word rest =
     if bytes_eq word (codes "out") then out_kind rest else kinds.Other)))
 
 -- The kinds of lines that begin with `end`, `instance` and `connect`, from the tokens after that word.
-abbrev pub ends : List Token → Kind
+abbrev pub ends : List Token → LineKind
 ends [] = kinds.Ends
 ends _ = kinds.Other
 
-abbrev pub opens : List Token → Kind
+abbrev pub opens : List Token → LineKind
 opens (token.Name name ∷ token.Symbol sign.Colon ∷ token.Name unit ∷ []) = kinds.Opens
 opens _ = kinds.Other
 
-abbrev pub connects : List Token → Kind
+abbrev pub connects : List Token → LineKind
 connects (token.Name a ∷ token.Symbol sign.Point ∷ token.Name y ∷ token.Symbol sign.Arrow ∷ token.Name b ∷ token.Symbol sign.Point ∷ token.Name u ∷ []) = kinds.Connects
 connects _ = kinds.Other
 
-abbrev pub keyword_kind : Keyword → List Token → Kind
+abbrev pub keyword_kind : Keyword → List Token → LineKind
 keyword_kind word.End rest = ends rest
 keyword_kind word.Instance rest = opens rest
 keyword_kind word.Connect rest = connects rest
 keyword_kind _ rest = kinds.Other
 
 -- The kind of a line with these tokens.
-abbrev pub kind_of : List Token → Kind
+abbrev pub kind_of : List Token → LineKind
 kind_of [] = kinds.Blank
 kind_of (token.Keyword keyword ∷ rest) = keyword_kind keyword rest
 kind_of (token.Name word ∷ rest) = named_kind word rest
 kind_of _ = kinds.Other
 
-abbrev pub begins_group : Kind → Bool
+abbrev pub begins_group : LineKind → Bool
 begins_group (kinds.Begins name) = true
 begins_group kind = false
 
-abbrev pub name_begun : Kind → Option (List ℕ)
+abbrev pub name_begun : LineKind → Option (List ℕ)
 name_begun (kinds.Begins name) = Some name
 name_begun kind = None
 
@@ -94,7 +94,7 @@ abbrev pub OfLines : ℕ → List ℕ → (List SourceLine → Type 0) → Type 
 OfLines first text Says = (lines : List SourceLine) → AreLines first text lines → Says lines
 
 -- The number of the first line that is not allowed where it is.
-abbrev pub first_stray : Place → List SourceLine → Option ℕ
+abbrev pub first_stray : PartPlace → List SourceLine → Option ℕ
 first_stray place [] = None
 first_stray place (line ∷ lines) = if may_stand place line.kind then first_stray (place_after place line.kind) lines else Some line.number
 

@@ -6,7 +6,7 @@ ghost use Rattle.nest_text.specs.Nests.{GroupLines, groups_of};
 ghost use Rattle.nest_text.specs.Reading.{AddsLine, Gathers, GroupAnswers, GroupsAnswer, InsideAnswers, IsGathered, NextGroupIs, OfLines, SaysInside};
 
 use crate::fault::NestFault;
-use crate::kind::{Kind, kind_of_line};
+use crate::kind::{LineKind, kind_of_line};
 use crate::nest::{Bind, Group};
 use fixed_words::{List, NoMemory};
 use std::alloc::Global;
@@ -59,12 +59,12 @@ impl Body {
     }
 
     /// Adds a line of the kind.
-    fn add(&mut self, kind: Kind, line: &[u8], number: u32) -> Result<(), NoMemory>
+    fn add(&mut self, kind: LineKind, line: &[u8], number: u32) -> Result<(), NoMemory>
         ensures { OnOk result (AddsLine self.old self.new (record { number = number; bytes = line.now; kind = kind })) }
     {
         match kind {
-            Kind::In(bind) => self.ins.push(bind)?,
-            Kind::Out(bind) => self.outs.push(bind)?,
+            LineKind::In(bind) => self.ins.push(bind)?,
+            LineKind::Out(bind) => self.outs.push(bind)?,
             other => {
                 drop(other);
                 self.keep(line, number)?;

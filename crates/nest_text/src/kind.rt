@@ -26,7 +26,7 @@ const OUT: &[u8] = b"out";
 
 /// The kind of a line of a nested text, by which parts are found.
 #[derive(Debug, Drop)]
-pub enum Kind {
+pub enum LineKind {
     /// `group G`, which begins a group.
     Begins(Name),
     /// `main`, which begins the last part.
@@ -47,11 +47,11 @@ pub enum Kind {
     Other,
 }
 
-impl Kind {
+impl LineKind {
     pub(crate) fn begins_group(&self) -> bool
         ensures { result ≡ begins_group self.now }
     {
-        matches!(self, Kind::Begins(_))
+        matches!(self, LineKind::Begins(_))
     }
 
     /// The name of the group that the line begins.
@@ -59,7 +59,7 @@ impl Kind {
         ensures { result ≡ name_begun self }
     {
         match self {
-            Kind::Begins(name) => Some(name),
+            LineKind::Begins(name) => Some(name),
             other => {
                 drop(other);
                 None
@@ -70,7 +70,7 @@ impl Kind {
     pub(crate) fn is_main(&self) -> bool
         ensures { result ≡ is_main self.now }
     {
-        matches!(self, Kind::Main)
+        matches!(self, LineKind::Main)
     }
 }
 
@@ -111,27 +111,27 @@ fn bind(alloc: Global, port: &Name, instance: &Name, inner: &Name) -> Result<Bin
 }
 
 /// A line that begins with `group`, from the tokens after it.
-fn group_kind(alloc: Global, rest: &[Token]) -> Result<Kind, NoMemory>
+fn group_kind(alloc: Global, rest: &[Token]) -> Result<LineKind, NoMemory>
     ensures { IfOk result (λ kind. kind ≡ group_kind rest.now) }
 {
     match rest {
-        [Token::Name(name)] => Ok(Kind::Begins(copied(alloc, name)?)),
-        _ => Ok(Kind::Other),
+        [Token::Name(name)] => Ok(LineKind::Begins(copied(alloc, name)?)),
+        _ => Ok(LineKind::Other),
     }
 }
 
 /// A line that begins with `main`, from the tokens after it.
-fn main_kind(rest: &[Token]) -> Kind
+fn main_kind(rest: &[Token]) -> LineKind
     ensures { result ≡ main_kind rest.now }
 {
     match rest {
-        [] => Kind::Main,
-        _ => Kind::Other,
+        [] => LineKind::Main,
+        _ => LineKind::Other,
     }
 }
 
 /// A line that begins with `in`, from the tokens after it.
-fn in_kind(alloc: Global, rest: &[Token]) -> Result<Kind, NoMemory>
+fn in_kind(alloc: Global, rest: &[Token]) -> Result<LineKind, NoMemory>
     ensures { IfOk result (λ kind. kind ≡ in_kind rest.now) }
 {
     match rest {
@@ -141,13 +141,13 @@ fn in_kind(alloc: Global, rest: &[Token]) -> Result<Kind, NoMemory>
             Token::Name(instance),
             Token::Symbol(Symbol::Point),
             Token::Name(inner),
-        ] => Ok(Kind::In(bind(alloc, port, instance, inner)?)),
-        _ => Ok(Kind::Other),
+        ] => Ok(LineKind::In(bind(alloc, port, instance, inner)?)),
+        _ => Ok(LineKind::Other),
     }
 }
 
 /// A line that begins with `out`, from the tokens after it.
-fn out_kind(alloc: Global, rest: &[Token]) -> Result<Kind, NoMemory>
+fn out_kind(alloc: Global, rest: &[Token]) -> Result<LineKind, NoMemory>
     ensures { IfOk result (λ kind. kind ≡ out_kind rest.now) }
 {
     match rest {
@@ -157,13 +157,13 @@ fn out_kind(alloc: Global, rest: &[Token]) -> Result<Kind, NoMemory>
             Token::Name(instance),
             Token::Symbol(Symbol::Point),
             Token::Name(inner),
-        ] => Ok(Kind::Out(bind(alloc, port, instance, inner)?)),
-        _ => Ok(Kind::Other),
+        ] => Ok(LineKind::Out(bind(alloc, port, instance, inner)?)),
+        _ => Ok(LineKind::Other),
     }
 }
 
 /// A line that begins with a name, from the name and the tokens after it.
-fn named_kind(alloc: Global, word: &[u8], rest: &[Token]) -> Result<Kind, NoMemory>
+fn named_kind(alloc: Global, word: &[u8], rest: &[Token]) -> Result<LineKind, NoMemory>
     ensures { IfOk result (λ kind. kind ≡ named_kind word.now rest.now) }
 {
     if word == GROUP {
@@ -175,22 +175,22 @@ fn named_kind(alloc: Global, word: &[u8], rest: &[Token]) -> Result<Kind, NoMemo
     } else if word == OUT {
         out_kind(alloc, rest)
     } else {
-        Ok(Kind::Other)
+        Ok(LineKind::Other)
     }
 }
 
 /// The kind of a line that begins with `instance`, from the tokens after it.
-fn opens(rest: &[Token]) -> Kind
+fn opens(rest: &[Token]) -> LineKind
     ensures { result ≡ opens rest.now }
 {
     match rest {
-        [Token::Name(_), Token::Symbol(Symbol::Colon), Token::Name(_)] => Kind::Opens,
-        _ => Kind::Other,
+        [Token::Name(_), Token::Symbol(Symbol::Colon), Token::Name(_)] => LineKind::Opens,
+        _ => LineKind::Other,
     }
 }
 
 /// The kind of a line that begins with `connect`, from the tokens after it.
-fn connects(rest: &[Token]) -> Kind
+fn connects(rest: &[Token]) -> LineKind
     ensures { result ≡ connects rest.now }
 {
     match rest {
@@ -202,46 +202,46 @@ fn connects(rest: &[Token]) -> Kind
             Token::Name(_),
             Token::Symbol(Symbol::Point),
             Token::Name(_),
-        ] => Kind::Connects,
-        _ => Kind::Other,
+        ] => LineKind::Connects,
+        _ => LineKind::Other,
     }
 }
 
 /// A line that begins with a keyword, from the keyword and the tokens after it.
-fn keyword_kind(keyword: Keyword, rest: &[Token]) -> Kind
+fn keyword_kind(keyword: Keyword, rest: &[Token]) -> LineKind
     ensures { result ≡ keyword_kind keyword rest.now }
 {
     match keyword {
         Keyword::End => match rest {
-            [] => Kind::Ends,
-            _ => Kind::Other,
+            [] => LineKind::Ends,
+            _ => LineKind::Other,
         },
         Keyword::Instance => opens(rest),
         Keyword::Connect => connects(rest),
-        _ => Kind::Other,
+        _ => LineKind::Other,
     }
 }
 
 /// The kind of a line with these tokens.
-fn kind_of(alloc: Global, tokens: &[Token]) -> Result<Kind, NoMemory>
+fn kind_of(alloc: Global, tokens: &[Token]) -> Result<LineKind, NoMemory>
     ensures { IfOk result (λ kind. kind ≡ kind_of tokens.now) }
 {
     match tokens {
-        [] => Ok(Kind::Blank),
+        [] => Ok(LineKind::Blank),
         [Token::Keyword(keyword), rest @ ..] => Ok(keyword_kind(*keyword, rest)),
         [Token::Name(word), rest @ ..] => named_kind(alloc, word.as_slice(), rest),
-        _ => Ok(Kind::Other),
+        _ => Ok(LineKind::Other),
     }
 }
 
 /// The kind of a line without its end.
 #[tactic(auto, using(crate::proofs::KindLaws::kind_spelled, crate::proofs::KindLaws::kind_unspelled))]
-pub(crate) fn kind_of_line(alloc: Global, line: &[u8]) -> Result<Kind, NoMemory>
+pub(crate) fn kind_of_line(alloc: Global, line: &[u8]) -> Result<LineKind, NoMemory>
     ensures { IfOk result (IsKind line.now) }
 {
     match tokens(alloc, code(line)) {
         Ok(tokens) => kind_of(alloc, tokens.as_slice()),
-        Err(Unread::NoForm) => Ok(Kind::Other),
+        Err(Unread::NoForm) => Ok(LineKind::Other),
         Err(Unread::NoMemory) => Err(AllocError),
     }
 }

@@ -4,12 +4,12 @@ ghost use Rattle.model_rules.specs.Limits.{text_limit};
 ghost use Rattle.nest_text.specs.NestLines.{IsKind};
 ghost use Rattle.nest_text.specs.Nests.{is_main};
 ghost use Rattle.nest_text.specs.Reading.{CutAnswers, MainIs, OfLines, first_stray};
-ghost use Rattle.nest_text.specs.declared.kind.Kind.{Kind as Kinds};
-ghost use Rattle.nest_text.specs.declared.place.Place.TheVariants as places;
+ghost use Rattle.nest_text.specs.declared.kind.LineKind.{LineKind as Kinds};
+ghost use Rattle.nest_text.specs.declared.place.PartPlace.TheVariants as places;
 
 use crate::fault::NestFault;
 use crate::kind::kind_of_line;
-use crate::place::Place;
+use crate::place::PartPlace;
 use fixed_words::NoMemory;
 use model_rules::Rule;
 use std::alloc::Global;
@@ -23,7 +23,7 @@ fn first_stray(alloc: Global, text: &[u8]) -> Result<Option<u32>, NoMemory>
 {
     let mut rest = text;
     let mut number = 0;
-    let mut place = Place::BeforeParts;
+    let mut place = PartPlace::BeforeParts;
     while !rest.is_empty() {
         let (line, behind) = cut_line(rest);
         rest = behind;

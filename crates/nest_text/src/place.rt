@@ -2,11 +2,11 @@
 ghost use Rattle.std.specs.Prelude.{◌≡◌};
 ghost use Rattle.nest_text.specs.NestLines.{place_after, may_stand};
 
-use crate::kind::Kind;
+use crate::kind::LineKind;
 
 /// The place of a line of a nested text: what comes before it.
 #[derive(Clone, Copy, Debug, PartialEq, Eq)]
-pub enum Place {
+pub enum PartPlace {
     BeforeParts,
     /// In a group, outside the blocks of its instances.
     InGroup,
@@ -15,32 +15,32 @@ pub enum Place {
     InMain,
 }
 
-impl Place {
+impl PartPlace {
     /// Whether a line of the kind is allowed here.
-    pub(crate) fn allows(self, kind: &Kind) -> bool
+    pub(crate) fn allows(self, kind: &LineKind) -> bool
         ensures { result ≡ may_stand self kind.now }
     {
         match (self, kind) {
-            (Place::InMain, Kind::Main) => false,
-            (Place::InMain, _) => true,
-            (_, Kind::Blank | Kind::Begins(_) | Kind::Main) => true,
-            (Place::BeforeParts, _) => false,
-            (_, Kind::Other) => false,
-            (Place::InBlock, Kind::In(_) | Kind::Out(_)) => false,
+            (PartPlace::InMain, LineKind::Main) => false,
+            (PartPlace::InMain, _) => true,
+            (_, LineKind::Blank | LineKind::Begins(_) | LineKind::Main) => true,
+            (PartPlace::BeforeParts, _) => false,
+            (_, LineKind::Other) => false,
+            (PartPlace::InBlock, LineKind::In(_) | LineKind::Out(_)) => false,
             _ => true,
         }
     }
 
     /// The place after a line of the kind.
-    pub(crate) fn after(self, kind: &Kind) -> Place
+    pub(crate) fn after(self, kind: &LineKind) -> PartPlace
         ensures { result ≡ place_after self kind.now }
     {
         match (self, kind) {
-            (Place::InMain, _) | (_, Kind::Main) => Place::InMain,
-            (_, Kind::Begins(_)) => Place::InGroup,
-            (Place::BeforeParts, _) => Place::BeforeParts,
-            (_, Kind::Opens) => Place::InBlock,
-            (_, Kind::Ends) => Place::InGroup,
+            (PartPlace::InMain, _) | (_, LineKind::Main) => PartPlace::InMain,
+            (_, LineKind::Begins(_)) => PartPlace::InGroup,
+            (PartPlace::BeforeParts, _) => PartPlace::BeforeParts,
+            (_, LineKind::Opens) => PartPlace::InBlock,
+            (_, LineKind::Ends) => PartPlace::InGroup,
             (place, _) => place,
         }
     }

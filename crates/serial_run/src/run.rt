@@ -2,7 +2,7 @@ ghost use Rattle.std.specs.Prelude.{◌≤◌, ◌*◌, length, IfOk, OnErr};
 ghost use Rattle.serial_run.specs.Alone.{IsAlone};
 ghost use Rattle.trace_core.specs.Runs.{IsOpened, Stands};
 ghost use Rattle.trace_rows.specs.Faults.{TellsFault};
-ghost use Rattle.trace_rows.specs.Reports.{PutsFront, PutsRestFront, ReportsRest, ReportsTrace};
+ghost use Rattle.trace_rows.specs.Reports.{AppendsTracePrefix, AppendsRestPrefix, ReportsRest, ReportsTrace};
 ghost use Rattle.unit_tree.specs.Trace.{HasCells};
 
 use crate::alone::Alone;
@@ -26,7 +26,7 @@ pub fn put_rest<O: Sink>(
     requires stands { Stands run }
     ensures whole { IfOk result (ReportsRest plan.now run.opened (O.held out.old) (O.held out.new)) }
     ensures alone { IfOk result IsAlone }
-    ensures front { OnErr result (PutsRestFront plan.now run.opened (O.held out.old) (O.held out.new)) }
+    ensures front { OnErr result (AppendsRestPrefix plan.now run.opened (O.held out.old) (O.held out.new)) }
     ensures cause { TellsFault (O.faults out.old) (O.faults out.new) result }
 {
     let mut alone = Alone::new(run, plan.instances());
@@ -44,7 +44,7 @@ pub fn run_alone<O: Sink>(alloc: Global, plan: Arc<Plan>, out: &mut O) -> Result
     ensures whole { IfOk result (ReportsTrace plan.value.system (O.held out.old) (O.held out.new)) }
     ensures alone { IfOk result IsAlone }
     ensures own { IfOk result (λ report. HasCells plan.value.system report.own) }
-    ensures front { OnErr result (PutsFront plan.value.system (O.held out.old) (O.held out.new)) }
+    ensures front { OnErr result (AppendsTracePrefix plan.value.system (O.held out.old) (O.held out.new)) }
     ensures cause { TellsFault (O.faults out.old) (O.faults out.new) result }
     ensures bounded { IfOk result (λ report. report.own ≤ 2 * length plan.value.run.members * report.rows) }
 {

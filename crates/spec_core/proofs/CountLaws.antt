@@ -15,7 +15,7 @@ use Rattle.spec_core.specs.declared.event.Event.TheVariants as event
 use Rattle.spec_core.specs.declared.event.Reply.{Reply}
 use Rattle.spec_core.specs.declared.event.Reply.TheVariants as reply
 use Rattle.spec_core.specs.declared.replies.Replies.{Replies}
-use Rattle.spec_core.specs.declared.rounds.Course.{Course}
+use Rattle.spec_core.specs.declared.rounds.ReplayState.{ReplayState}
 use Rattle.spec_core.proofs.DoneLaws.{all_served_leads, leads_append}
 use Rattle.guess_board.specs.Lanes.{TicketState}
 use Rattle.list_laws.proofs.Members.{set_elsewhere}
@@ -112,7 +112,7 @@ pub none_held : (workers : ℕ) → tickets_in (replicate workers []) ≡ 0
 none_held zero = refl
 none_held (suc workers) = none_held workers
 
-pub all_settled : (course : Course) (from : WorldState) (past : List Done) → Leads from past course.world → tickets_in from.hands ≡ 0
+pub all_settled : (course : ReplayState) (from : WorldState) (past : List Done) → Leads from past course.world → tickets_in from.hands ≡ 0
     → course.replies ≡ with_replies no_replies past → AreSettled course
 all_settled course from past leads none counted =
     let along = tickets_along past from course.world no_replies leads in
@@ -138,7 +138,7 @@ module _ (field : Replies → ℕ) (number : Reply → ℕ) (step : (counts : Re
         counted_along others (with_reply counts one.reply)
         ∙ ap (λ sum. fold (λ sum told. sum + number told) sum (replies_of others)) (step counts one.reply)
 
-pub are_counts : (course : Course) (past : List Done) (outcome : Ending) → course.world.run.phase ≡ Ended outcome → course.replies ≡ with_replies no_replies
+pub are_counts : (course : ReplayState) (past : List Done) (outcome : Ending) → course.world.run.phase ≡ Ended outcome → course.replies ≡ with_replies no_replies
     past
     → AreCounts past course.world (counts_of course outcome)
 are_counts course past outcome phase counted = record {

@@ -12,7 +12,7 @@ use Rattle.spec_core.specs.Replays.{AreRounds, IsReplayed, PutsTrace}
 use Rattle.spec_core.specs.Rounds.{Advances, AreFew, AreSettled, GoesRounds, IsBegun, PutsRows, before_draw, counts_of, counts_or_fault, no_replies}
 use Rattle.spec_core.specs.Rounds.{with_replies}
 use Rattle.spec_core.specs.Worlds.{IsWorld, tickets_in}
-use Rattle.spec_core.specs.declared.rounds.Course.{Course}
+use Rattle.spec_core.specs.declared.rounds.ReplayState.{ReplayState}
 use Rattle.spec_core.proofs.CountLaws.{all_settled, are_counts, none_held, rounds_lead}
 use Rattle.spec_core.proofs.CourseRounds.{both_rounds}
 use Rattle.trace_core.specs.Runs.{IsOpened, RunState, Stands, is_ended}
@@ -20,7 +20,7 @@ use Rattle.trace_core.specs.declared.phase.Phase.TheVariants.{Ended}
 use Rattle.trace_plan.specs.Plans.{Planned}
 use Rattle.trace_rows.specs.Faults.{TellsFault}
 use Rattle.trace_rows.specs.Lines.{PutsRow, header_of, lines_of, rows_here}
-use Rattle.trace_rows.specs.Reports.{PutsFront, PutsRestFront, report_of}
+use Rattle.trace_rows.specs.Reports.{AppendsTracePrefix, AppendsRestPrefix, report_of}
 use Rattle.trace_rows.specs.declared.fault.CrewFault.{CrewFault}
 use Rattle.trace_rows.specs.declared.fault.CrewFault.TheVariants.{NoMemory, WriteFault}
 use Rattle.trace_rows.specs.declared.tally.Tally.{Tally}
@@ -34,29 +34,29 @@ use Rattle.unit_tree.specs.declared.ending.Ending.{Ending}
 -- ---- From row to row
 
 -- The invariant of the loop over rows: the rows that were written, the rounds that were made, and that few events were counted so far.
-pub record KeptCourse (plan : Planned) (workers : ℕ) (first course : Course) (held0 held : Option (List ℕ)) (faults0 faults : ℕ) (tally : Tally) : Type 0 where
+pub record KeptCourse (plan : Planned) (workers : ℕ) (first course : ReplayState) (held0 held : Option (List ℕ)) (faults0 faults : ℕ) (tally : Tally) : Type 0 where
   pub kept : Kept plan first.world.run.opened course.world.run held0 held faults0 faults tally
-  pub front : PutsRestFront plan first.world.run.opened held0 held
+  pub front : AppendsRestPrefix plan first.world.run.opened held0 held
   pub world : IsWorld course.world
   pub rounds : GoesRounds workers first course
   pub few : AreFew course.replies
   pub most : course.replies.events ≤ 450 * course.world.run.stand.at.number
 
-module _ (plan : Planned) (first : Course) (held0 held : Option (List ℕ)) (faults0 faults : ℕ) (tally : Tally) where
+module _ (plan : Planned) (first : ReplayState) (held0 held : Option (List ℕ)) (faults0 faults : ℕ) (tally : Tally) where
   -- The replay has come to a row, before it is written.
-  abbrev pub ComeTo : Course → Type 0
+  abbrev pub ComeTo : ReplayState → Type 0
   ComeTo course = Come plan first.world.run.opened course.world.run held0 held faults0 faults tally
 
   -- A prefix of it may have been written.
-  pub front_put : {T : Type 0} (course : Course) (run : RunState) (held' : Option (List ℕ)) (result : Result T CrewFault) → ComeTo course
+  pub front_put : {T : Type 0} (course : ReplayState) (run : RunState) (held' : Option (List ℕ)) (result : Result T CrewFault) → ComeTo course
       → run ≡ course.world.run → AppendsPrefix held held' (lines_of plan.system (rows_here plan run.stand))
-      → OnErr result (PutsRestFront plan first.world.run.opened held0 held')
+      → OnErr result (AppendsRestPrefix plan first.world.run.opened held0 held')
   front_put course run held' result come is front =
       on_err result (front_come plan first.world.run.opened course.world.run held0 held held' faults0 faults tally come
       (subst (λ (r : RunState). AppendsPrefix held held' (lines_of plan.system (rows_here plan r.stand))) is front))
 
   -- Or all of it.
-  pub row_put : (workers : ℕ) (course : Course) (run : RunState) (held' : Option (List ℕ)) (faults' : ℕ) (after : Tally) → ComeTo course → IsWorld course.world
+  pub row_put : (workers : ℕ) (course : ReplayState) (run : RunState) (held' : Option (List ℕ)) (faults' : ℕ) (after : Tally) → ComeTo course → IsWorld course.world
       → GoesRounds workers first course → AreFew course.replies → course.replies.events ≤ 450 * course.world.run.stand.at.number
       → run ≡ course.world.run → PutsRow plan run.stand held held' faults faults' tally after (Ok tt)
       → KeptCourse plan workers first course held0 held' faults0 faults' after
@@ -73,7 +73,7 @@ module _ (plan : Planned) (first : Course) (held0 held : Option (List ℕ)) (fau
         most = most;
       }
 
-  module _ (workers : ℕ) (course new : Course) (came : Bool) (given : Given plan first.world.run.opened)
+  module _ (workers : ℕ) (course new : ReplayState) (came : Bool) (given : Given plan first.world.run.opened)
       (kept : KeptCourse plan workers first course held0 held faults0 faults tally) (advances : Advances workers course new came)
       (stands : Stands new.world.run) where
     pub next_come : came ≡ true → ComeTo new
@@ -100,7 +100,7 @@ module _ (plan : Planned) (first : Course) (held0 held : Option (List ℕ)) (fau
         (ended_by course.world.run new.world.run came is advances.went) stands
 
   -- The events of another row can be counted.
-  pub has_room : (workers : ℕ) (course : Course) → Given plan first.world.run.opened → KeptCourse plan workers first course held0 held faults0 faults tally
+  pub has_room : (workers : ℕ) (course : ReplayState) → Given plan first.world.run.opened → KeptCourse plan workers first course held0 held faults0 faults tally
       → course.replies.events + 450 ≤ 1073741824
   has_room workers course given kept =
       let most = kept.most in
@@ -135,12 +135,12 @@ puts_rows plan from run held0 held tally ending given done phase = record {
 -- ---- The whole replay
 
 -- It has ended after these rounds.
-pub record IsPlayed (plan : Planned) (seed workers : ℕ) (first last : Course) (outcome : Ending) : Type 0 where
+pub record IsPlayed (plan : Planned) (seed workers : ℕ) (first last : ReplayState) (outcome : Ending) : Type 0 where
   pub begun : IsBegun plan seed workers first
   pub rounds : GoesRounds workers first last
   pub phase : last.world.run.phase ≡ Ended outcome
 
-module _ (plan : Planned) (seed workers : ℕ) (first last : Course) (outcome : Ending) (played : IsPlayed plan seed workers first last outcome) where
+module _ (plan : Planned) (seed workers : ℕ) (first last : ReplayState) (outcome : Ending) (played : IsPlayed plan seed workers first last outcome) where
   abbrev past : List Done
   past = flat_map (λ round. round) played.rounds.rounds
 
@@ -193,14 +193,14 @@ module _ (plan : Planned) (first : RunState) (opened : IsOpened plan (first_posi
       record { rows = all.rows; trace = all.trace; out = all.out }
   trace_put run (Err fault) rows = tt
 
-  pub trace_front : (ended : Result Ending CrewFault) → OnErr ended (PutsRestFront plan first.opened held held') → OnErr ended
-      (PutsFront plan.system held0 held')
+  pub trace_front : (ended : Result Ending CrewFault) → OnErr ended (AppendsRestPrefix plan first.opened held held') → OnErr ended
+      (AppendsTracePrefix plan.system held0 held')
   trace_front (Ok outcome) front = tt
   trace_front (Err fault) front = traced_err plan first.opened held0 held held' (Err fault) composed at_first put front
 
 -- ---- By the result of writing it
 
-module _ (plan : Planned) (seed workers : ℕ) (first last : Course) (begun : IsBegun plan seed workers first) where
+module _ (plan : Planned) (seed workers : ℕ) (first last : ReplayState) (begun : IsBegun plan seed workers first) where
   played : (outcome : Ending) → GoesRounds workers first last → last.world.run.phase ≡ Ended outcome → IsPlayed plan seed workers first last outcome
   played outcome rounds phase = record { begun = begun; rounds = rounds; phase = phase }
 

@@ -10,7 +10,7 @@ use Rattle.spec_core.specs.Worlds.{IsWorld, WorldState}
 use Rattle.spec_core.specs.declared.event.Event.TheVariants as event
 use Rattle.spec_core.specs.declared.event.Reply.TheVariants as reply
 use Rattle.spec_core.specs.declared.replies.Replies.{Replies}
-use Rattle.spec_core.specs.declared.rounds.Course.{Course}
+use Rattle.spec_core.specs.declared.rounds.ReplayState.{ReplayState}
 use Rattle.trace_rows.proofs.Filling.{few_cells}
 use Rattle.spec_core.proofs.DoneLaws.{counted_more, done, draws_on, drawn_are, length-drawn_from, length-publishes, replies_append}
 use Rattle.spec_core.proofs.FillingLaws.{all_leave, drawn_leave, leaves_run, publishes_leave, served_there}
@@ -59,7 +59,7 @@ worked_most {told = told} x workers instances count did = did.number ∙ ap (λ 
 times_more : (a b : ℕ) → a * b + a ≡ a * (b + 1)
 times_more a b = omega arith
 
-module _ (workers : ℕ) (old new : Course) (to : Settle) (made : MakesRound workers old to new) where
+module _ (workers : ℕ) (old new : ReplayState) (to : Settle) (made : MakesRound workers old to new) where
   abbrev settle_done : Done
   settle_done = done made.filled event.Settle (reply.Settled to) new.world
 
@@ -116,7 +116,7 @@ module _ (workers : ℕ) (old new : Course) (to : Settle) (made : MakesRound wor
 
 -- ---- Rounds one after the other
 
-pub no_round : (workers : ℕ) (course : Course) → GoesRounds workers course course
+pub no_round : (workers : ℕ) (course : ReplayState) → GoesRounds workers course course
 no_round workers course = record {
   rounds = [];
   counted = refl;
@@ -125,7 +125,7 @@ no_round workers course = record {
       subst (λ count. AreRounds seed workers count course.world rest to) (add-zero number) follow;
 }
 
-pub one_round : (workers : ℕ) (old new : Course) (to : Settle) → MakesRound workers old to new → is_ended old.world.run.phase ≡ false
+pub one_round : (workers : ℕ) (old new : ReplayState) (to : Settle) → MakesRound workers old to new → is_ended old.world.run.phase ≡ false
     → GoesRounds workers old new
 one_round workers old new to made going = record {
   rounds = past_of workers old new to made ∷ [];
@@ -139,7 +139,7 @@ one_round workers old new to made going = record {
   );
 }
 
-pub both_rounds : (workers : ℕ) (old mid new : Course) → GoesRounds workers old mid → GoesRounds workers mid new → GoesRounds workers old new
+pub both_rounds : (workers : ℕ) (old mid new : ReplayState) → GoesRounds workers old mid → GoesRounds workers mid new → GoesRounds workers old new
 both_rounds workers old mid new one other = record {
   rounds = one.rounds ++ other.rounds;
   counted = other.counted ∙ ap (λ counts. with_replies counts (flat_map (λ round. round) other.rounds)) one.counted
@@ -161,7 +161,7 @@ both_rounds workers old mid new one other = record {
 -- ---- From row to row
 
 -- Nothing is done where the run has ended.
-pub ended_already : (workers : ℕ) (course : Course) (ending : Ending) → IsWorld course.world → IsFresh course.world.run → AreFew course.replies
+pub ended_already : (workers : ℕ) (course : ReplayState) (ending : Ending) → IsWorld course.world → IsFresh course.world.run → AreFew course.replies
     → course.world.run.phase ≡ Ended ending → Advances workers course course false
 ended_already workers course ending is fresh few phase = record {
   went = ends_already course.world.run ending fresh is.stands phase;
@@ -170,18 +170,18 @@ ended_already workers course ending is fresh few phase = record {
   most = omega arith;
 }
 
-module _ (workers : ℕ) (old : Course) (few_workers : workers ≤ 16) (is : IsWorld old.world) (fresh : IsFresh old.world.run)
+module _ (workers : ℕ) (old : ReplayState) (few_workers : workers ≤ 16) (is : IsWorld old.world) (fresh : IsFresh old.world.run)
     (not : (ending : Ending) → old.world.run.phase ≡ Ended ending → ⊥) where
   pub begins_going : is_ended old.world.run.phase ≡ false
   begins_going = trial_going old.world.run fresh not
 
-  to_row : (to : Settle) (new : Course) → MakesRound workers old to new → ToRow old.world.run new.world.run to
+  to_row : (to : Settle) (new : ReplayState) → MakesRound workers old to new → ToRow old.world.run new.world.run to
   to_row to new made =
       settled_trial old.world.run is.stands made.filled.run new.world.run to fresh not (round_there workers old new to made is)
       (round_settled workers old new to made)
 
   -- One round leads to the next row, or to the end.
-  by_one : (to : Settle) (came : Bool) (new : Course) → MakesRound workers old to new → WentOn old.world.run new.world.run came → Advances workers old new came
+  by_one : (to : Settle) (came : Bool) (new : ReplayState) → MakesRound workers old to new → WentOn old.world.run new.world.run came → Advances workers old new came
   by_one to came new made went = record {
     went = went;
     rounds = one_round workers old new to made begins_going;
@@ -189,13 +189,13 @@ module _ (workers : ℕ) (old : Course) (few_workers : workers ≤ 16) (is : IsW
     most = let most = round_most workers old new to made few_workers is in omega (arith, most);
   }
 
-  pub one_to_row : (to : Settle) (new : Course) → to ≡ settle.Row → MakesRound workers old to new → Advances workers old new true
+  pub one_to_row : (to : Settle) (new : ReplayState) → to ≡ settle.Row → MakesRound workers old to new → Advances workers old new true
   one_to_row to new row made = by_one to true new made (subst (ToRow old.world.run new.world.run) row (to_row to new made))
 
-  pub one_to_end : (to : Settle) (new : Course) → to ≡ settle.Ended → MakesRound workers old to new → Advances workers old new false
+  pub one_to_end : (to : Settle) (new : ReplayState) → to ≡ settle.Ended → MakesRound workers old to new → Advances workers old new false
   one_to_end to new ended made = by_one to false new made (subst (ToRow old.world.run new.world.run) ended (to_row to new made))
 
-  module _ (mid : Course) (redo : Settle) (is_redo : redo ≡ settle.Redo) (first : MakesRound workers old redo mid) (mid_is : IsWorld mid.world) where
+  module _ (mid : ReplayState) (redo : Settle) (is_redo : redo ≡ settle.Redo) (first : MakesRound workers old redo mid) (mid_is : IsWorld mid.world) where
     redone : IsRedone old.world.run mid.world.run
     redone = subst (ToRow old.world.run mid.world.run) is_redo (to_row redo mid first)
 
@@ -209,13 +209,13 @@ module _ (workers : ℕ) (old : Course) (few_workers : workers ≤ 16) (is : IsW
     pub first_most : mid.replies.events ≤ old.replies.events + 225
     first_most = round_most workers old mid redo first few_workers is
 
-    to_end : (to : Settle) (new : Course) → MakesRound workers mid to new → ToEnd old.world.run new.world.run to
+    to_end : (to : Settle) (new : ReplayState) → MakesRound workers mid to new → ToEnd old.world.run new.world.run to
     to_end to new made =
         settled_redo old.world.run is.stands mid.world.run made.filled.run new.world.run to redone (round_there workers mid new to made mid_is)
         (round_settled workers mid new to made)
 
     -- So do two rounds, where there is a redo.
-    by_two : (to : Settle) (came : Bool) (new : Course) → MakesRound workers mid to new → WentOn old.world.run new.world.run came
+    by_two : (to : Settle) (came : Bool) (new : ReplayState) → MakesRound workers mid to new → WentOn old.world.run new.world.run came
         → Advances workers old new came
     by_two to came new made went = record {
       went = went;
@@ -227,8 +227,8 @@ module _ (workers : ℕ) (old : Course) (few_workers : workers ≤ 16) (is : IsW
           omega (arith, second, before);
     }
 
-    pub two_to_row : (to : Settle) (new : Course) → to ≡ settle.Row → MakesRound workers mid to new → Advances workers old new true
+    pub two_to_row : (to : Settle) (new : ReplayState) → to ≡ settle.Row → MakesRound workers mid to new → Advances workers old new true
     two_to_row to new row made = by_two to true new made (subst (ToEnd old.world.run new.world.run) row (to_end to new made))
 
-    pub two_to_end : (to : Settle) (new : Course) → (to ≡ settle.Row → ⊥) → MakesRound workers mid to new → Advances workers old new false
+    pub two_to_end : (to : Settle) (new : ReplayState) → (to ≡ settle.Row → ⊥) → MakesRound workers mid to new → Advances workers old new false
     two_to_end to new not_row made = by_two to false new made (no_row old.world.run new.world.run to (to_end to new made) not_row)

@@ -14,7 +14,7 @@ use Rattle.spec_core.specs.declared.event.Event.TheVariants as event
 use Rattle.spec_core.specs.declared.event.Reply.{Reply}
 use Rattle.spec_core.specs.declared.event.Reply.TheVariants as reply
 use Rattle.spec_core.specs.declared.replies.Replies.{Replies}
-use Rattle.spec_core.specs.declared.rounds.Course.{Course}
+use Rattle.spec_core.specs.declared.rounds.ReplayState.{ReplayState}
 use Rattle.trace_core.specs.Runs.{RunState}
 use Rattle.trace_core.specs.declared.phase.Settle.{Settle}
 use Rattle.trace_plan.specs.Plans.{Planned}
@@ -101,7 +101,7 @@ pub record AreServedAll (instances : ℕ) (from : WorldState) (told : Replies) (
 -- ---- A round
 
 -- A round was made, with this result of settling.
-pub record MakesRound (workers : ℕ) (old : Course) (settled : Settle) (new : Course) : Type 0 where
+pub record MakesRound (workers : ℕ) (old : ReplayState) (settled : Settle) (new : ReplayState) : Type 0 where
   pub lined : WorldState
   pub told_lined : Replies
   pub published : DoesAll (publishes (length old.world.lanes)) old.world old.replies lined told_lined
@@ -124,7 +124,7 @@ before_draw seed zero = draw_start seed
 before_draw seed (suc place) = draw seed place
 
 -- Rounds were made that lead from one replay to the other. With any rounds after them, all are rounds from where these began.
-pub record GoesRounds (workers : ℕ) (old new : Course) : Type 0 where
+pub record GoesRounds (workers : ℕ) (old new : ReplayState) : Type 0 where
   pub rounds : List (List Done)
   pub counted : new.replies ≡ with_replies old.replies (flat_map (λ round. round) rounds)
   pub draws : (seed number : ℕ) → old.draw ≡ before_draw seed (2 * workers * number)
@@ -133,7 +133,7 @@ pub record GoesRounds (workers : ℕ) (old new : Course) : Type 0 where
       → AreRounds seed workers (number + length rounds) new.world rest to → AreRounds seed workers number old.world (rounds ++ rest) to
 
 -- The run went on from a row, by rounds, and so many events were counted for it.
-pub record Advances (workers : ℕ) (old new : Course) (came : Bool) : Type 0 where
+pub record Advances (workers : ℕ) (old new : ReplayState) (came : Bool) : Type 0 where
   pub went : WentOn old.world.run new.world.run came
   pub rounds : GoesRounds workers old new
   pub few : AreFew new.replies
@@ -142,7 +142,7 @@ pub record Advances (workers : ℕ) (old new : Course) (came : Bool) : Type 0 wh
 -- ---- A replay, from its start to its counts
 
 -- The replay of a seed at its start.
-pub record IsBegun (plan : Planned) (seed workers : ℕ) (course : Course) : Type 0 where
+pub record IsBegun (plan : Planned) (seed workers : ℕ) (course : ReplayState) : Type 0 where
   pub opened : IsOpenedWorld plan workers 4 Hold course.world
   pub world : IsWorld course.world
   pub draw : course.draw ≡ draw_start seed
@@ -154,11 +154,11 @@ pub record PutsRows (plan : Planned) (from : Position) (run : RunState) (outcome
   pub reports : ReportsRest plan from old new (report_of run outcome tally)
 
 -- Each ticket that was taken was posted or given back, or is in a hand.
-abbrev pub AreSettled : Course → Type 0
+abbrev pub AreSettled : ReplayState → Type 0
 AreSettled course = course.replies.tickets ≡ course.replies.posted + course.replies.back + tickets_in course.world.hands
 
 -- The counts of a replay that has ended.
-abbrev pub counts_of : Course → Ending → Counts
+abbrev pub counts_of : ReplayState → Ending → Counts
 counts_of course outcome = record {
   outcome = outcome;
   last = course.world.run.stand.at.point;
@@ -174,6 +174,6 @@ counts_of course outcome = record {
 }
 
 -- The same of a replay that has ended, or was given up.
-abbrev pub counts_or_fault : Course → Result Ending CrewFault → Result Counts CrewFault
+abbrev pub counts_or_fault : ReplayState → Result Ending CrewFault → Result Counts CrewFault
 counts_or_fault course (Ok outcome) = Ok (counts_of course outcome)
 counts_or_fault course (Err fault) = Err fault

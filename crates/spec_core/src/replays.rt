@@ -5,13 +5,13 @@ ghost use Rattle.spec_core.specs.Rounds.{AreFew, AreSettled, GoesRounds, IsBegun
 ghost use Rattle.trace_core.specs.Runs.{IsOpened};
 ghost use Rattle.trace_core.specs.declared.phase.Phase.TheVariants.{Ended};
 ghost use Rattle.trace_rows.specs.Faults.{TellsFault};
-ghost use Rattle.trace_rows.specs.Reports.{PutsFront, PutsRestFront};
+ghost use Rattle.trace_rows.specs.Reports.{AppendsTracePrefix, AppendsRestPrefix};
 ghost use Rattle.unit_tree.specs.Successor.{first_position};
 
 use crate::counts::Counts;
 use crate::draws::draw_start;
 use crate::replies::Replies;
-use crate::rounds::{Course, advance};
+use crate::rounds::{ReplayState, advance};
 use crate::world::World;
 use cosim_io::Sink;
 use fixed_words::NoMemory;
@@ -31,7 +31,7 @@ fn put_rows<O: Sink>(
     alloc: Global,
     plan: &Plan,
     workers: u32,
-    course: &mut Course,
+    course: &mut ReplayState,
     out: &mut O,
 ) -> Result<Ending, ReplayFault>
     requires workers { workers ≤ 16 }
@@ -41,7 +41,7 @@ fn put_rows<O: Sink>(
     ensures rows { IfOk result (λ outcome. PutsRows plan.now course.old.world.run.opened course.new.world.run outcome (O.held out.old) (O.held out.new)) }
     ensures ended { IfOk result (λ outcome. course.new.world.run.phase ≡ Ended outcome) }
     ensures rounds { OnOk result (GoesRounds workers course.old course.new) }
-    ensures front { OnErr result (PutsRestFront plan.now course.old.world.run.opened (O.held out.old) (O.held out.new)) }
+    ensures front { OnErr result (AppendsRestPrefix plan.now course.old.world.run.opened (O.held out.old) (O.held out.new)) }
     ensures cause { TellsFault (O.faults out.old) (O.faults out.new) result }
 {
     course.world.facts();
@@ -64,7 +64,7 @@ fn put_trace<O: Sink>(
     alloc: Global,
     plan: &Plan,
     workers: u32,
-    course: &mut Course,
+    course: &mut ReplayState,
     out: &mut O,
 ) -> Result<Ending, ReplayFault>
     requires workers { workers ≤ 16 }
@@ -74,7 +74,7 @@ fn put_trace<O: Sink>(
     ensures whole { IfOk result (λ outcome. PutsTrace plan.now.system course.new.world.run.stand.at.point outcome (O.held out.old) (O.held out.new)) }
     ensures ended { IfOk result (λ outcome. course.new.world.run.phase ≡ Ended outcome) }
     ensures rounds { OnOk result (GoesRounds workers course.old course.new) }
-    ensures front { OnErr result (PutsFront plan.now.system (O.held out.old) (O.held out.new)) }
+    ensures front { OnErr result (AppendsTracePrefix plan.now.system (O.held out.old) (O.held out.new)) }
     ensures cause { TellsFault (O.faults out.old) (O.faults out.new) result }
 {
     course.world.facts();
@@ -83,12 +83,12 @@ fn put_trace<O: Sink>(
 }
 
 /// Returns the replay of a seed at its start.
-fn begin(alloc: Global, plan: Arc<Plan>, seed: u64, workers: u32) -> Result<Course, NoMemory>
+fn begin(alloc: Global, plan: Arc<Plan>, seed: u64, workers: u32) -> Result<ReplayState, NoMemory>
     requires workers { workers ≤ 16 }
     ensures { IfOk result (IsBegun plan.value seed workers) }
 {
     let world = World::open(alloc, plan, workers, WINDOW, Policy::Hold)?;
-    Ok(Course {
+    Ok(ReplayState {
         world,
         draw: draw_start(seed),
         replies: Replies::none(),
@@ -96,7 +96,7 @@ fn begin(alloc: Global, plan: Arc<Plan>, seed: u64, workers: u32) -> Result<Cour
 }
 
 /// Returns the counts of a replay that has ended.
-fn counts_of(course: &Course, outcome: Ending) -> Counts
+fn counts_of(course: &ReplayState, outcome: Ending) -> Counts
     requires settled { AreSettled course.now }
     ensures { result ≡ counts_of course.now outcome }
 {
@@ -119,7 +119,7 @@ fn counts_of(course: &Course, outcome: Ending) -> Counts
 
 /// Returns the counts of a replay that has ended, or the fault by which it was given up.
 fn counts_or_fault(
-    course: &Course,
+    course: &ReplayState,
     ended: Result<Ending, ReplayFault>,
 ) -> Result<Counts, ReplayFault>
     requires settled { OnOk ended (AreSettled course.now) }
@@ -148,7 +148,7 @@ pub fn replay<O: Sink>(
     requires workers { workers ≤ 16 }
     ensures whole { IfOk result (λ counts. PutsTrace plan.value.system counts.last counts.outcome (O.held out.old) (O.held out.new)) }
     ensures counts { IfOk result (IsReplayed plan.value seed workers) }
-    ensures front { OnErr result (PutsFront plan.value.system (O.held out.old) (O.held out.new)) }
+    ensures front { OnErr result (AppendsTracePrefix plan.value.system (O.held out.old) (O.held out.new)) }
     ensures cause { TellsFault (O.faults out.old) (O.faults out.new) result }
 {
     let mut course = begin(alloc, Arc::clone(&plan)?, seed, workers)?;

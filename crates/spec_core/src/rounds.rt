@@ -17,7 +17,7 @@ use trace_core::{Phase, Settle};
 
 /// A replay on its way.
 #[derive(Drop)]
-pub(crate) struct Course {
+pub(crate) struct ReplayState {
     pub(crate) world: World,
     /// The draw of the last event of a worker, or the number before the first draw.
     pub(crate) draw: u64,
@@ -144,7 +144,7 @@ fn make_round(
     alloc: Global,
     workers: u32,
     instances: u32,
-    course: &mut Course,
+    course: &mut ReplayState,
 ) -> Result<Settle, NoMemory>
     requires workers { workers ≤ 16 }
     requires instances { instances ≡ length course.old.world.lanes }
@@ -166,7 +166,7 @@ pub(crate) fn advance(
     alloc: Global,
     workers: u32,
     instances: u32,
-    course: &mut Course,
+    course: &mut ReplayState,
 ) -> Result<bool, NoMemory>
     requires workers { workers ≤ 16 }
     requires instances { instances ≡ length course.old.world.lanes }

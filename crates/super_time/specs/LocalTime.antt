@@ -5,7 +5,7 @@ use Rattle.std.specs.Prelude.{ℕ, ◌+◌, ◌-◌, ◌*◌, ◌/◌, ◌==◌,
 abbrev pub local_time : ℕ → ℕ → ℕ
 local_time factor t = t / factor
 
--- How many local ticks begin in a step of length h from t.
+-- How many local ticks end in a step of length h from t.
 abbrev pub local_step : ℕ → ℕ → ℕ → ℕ
 local_step factor t h = (t + h) / factor - t / factor
 

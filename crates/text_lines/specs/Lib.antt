@@ -1,4 +1,4 @@
 pub mod Expressions
 pub mod Laws
 pub mod LineReading
-pub mod Seen
+pub mod LineClass

@@ -18,5 +18,5 @@ mod versions;
 pub use expressions::{expression, tokens_write_one_expression};
 pub use laws::lines_have_one_form;
 pub use line_forms::{form_of_line, line_form};
-pub use lines::{Seen, is_blank_line, look_at, without_return};
+pub use lines::{LineClass, is_blank_line, look_at, without_return};
 pub use versions::{VERSION_2, is_of_version_2};

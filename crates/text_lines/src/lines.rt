@@ -3,7 +3,7 @@ ghost use Rattle.std.specs.Prelude.{◌≡◌, ◌≤◌, ◌==◌, not, length}
 ghost use Rattle.std.specs.List.{list_all, prefix_len};
 ghost use Rattle.unit_tree.specs.Lines.{code_of, without_return, is_code_byte, is_blank_line, has_forbidden_byte};
 ghost use Rattle.unit_tree.specs.Tokens.{is_blank};
-ghost use Rattle.text_lines.specs.Seen.{TellsOf};
+ghost use Rattle.text_lines.specs.LineClass.{TellsOf};
 
 use model_rules::{LONGEST_LINE, Rule};
 
@@ -15,7 +15,7 @@ const RETURN: u8 = b'\r';
 
 /// What is known of a line by its bytes.
 #[derive(Clone, Copy, Debug, PartialEq, Eq)]
-pub enum Seen {
+pub enum LineClass {
     /// The line breaks a rule; this is the least that it breaks.
     Broken(u8),
     Blank,
@@ -79,16 +79,16 @@ fn has_forbidden_byte(line: &[u8]) -> bool
 }
 
 /// What is known of a line by its bytes, without its end.
-pub fn look_at(line: &[u8]) -> Seen
+pub fn look_at(line: &[u8]) -> LineClass
     ensures { TellsOf line.now result }
 {
     if has_forbidden_byte(line) {
-        Seen::Broken(Rule::BytesAreAllowed.number())
+        LineClass::Broken(Rule::BytesAreAllowed.number())
     } else if line.len() > LONGEST_LINE {
-        Seen::Broken(Rule::LineFits.number())
+        LineClass::Broken(Rule::LineFits.number())
     } else if is_blank_line(line) {
-        Seen::Blank
+        LineClass::Blank
     } else {
-        Seen::Written
+        LineClass::Written
     }
 }

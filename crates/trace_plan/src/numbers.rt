@@ -7,8 +7,8 @@ ghost use Rattle.unit_tree.specs.Compositions.{ticks_or, default_zeros, default_
 ghost use Rattle.unit_tree.specs.WellFormed.{unit_resolution, resolution_of};
 
 use fixed_words::{Literal, ten_to_the};
-use super_time::read_seconds;
 use model_rules::MOST_CELLS;
+use super_time::read_seconds;
 use unit_tree::{Checked, System, Unit};
 
 /// The resolution of a system and the other numbers of its run: the stop and the longest step, in ticks, and the two budgets.

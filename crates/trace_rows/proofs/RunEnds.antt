@@ -23,7 +23,7 @@ use Rattle.unit_tree.specs.declared.system.System.{System}
 use Rattle.run_laws.proofs.RunTraces.{one_rest}
 use Rattle.trace_rows.specs.Lines.{header_of, lines_of, rows_here}
 use Rattle.trace_rows.specs.Passing.{Passes, Stops}
-use Rattle.trace_rows.specs.Reports.{report_of, AreTicketsTold, ReportsRest, PutsRestFront, ReportsTrace, PutsFront}
+use Rattle.trace_rows.specs.Reports.{report_of, AreTicketsTold, ReportsRest, AppendsRestPrefix, ReportsTrace, AppendsTracePrefix}
 use Rattle.trace_rows.specs.Sums.{sum_shown}
 use Rattle.trace_rows.specs.declared.fault.CrewFault.{CrewFault}
 use Rattle.trace_rows.specs.declared.report.Report.{Report}
@@ -163,7 +163,7 @@ front_of system run from passed here held0 held held' walked put front stands en
 
 pub front_come : (plan : Planned) (from : Position) (r : RunState) (held0 held held' : Option (List ℕ)) (faults0 faults : ℕ) (tally : Tally)
     → Come plan from r held0 held faults0 faults tally → AppendsPrefix held held' (lines_of plan.system (rows_here plan r.stand))
-    → PutsRestFront plan from held0 held'
+    → AppendsRestPrefix plan from held0 held'
 front_come plan from r held0 held held' faults0 faults tally come front = record {
   begins = λ stands ending rest.
       front_of plan.system plan.run from come.passed r.stand held0 held held' come.at.walked come.put.out front stands ending rest;
@@ -171,7 +171,7 @@ front_come plan from r held0 held held' faults0 faults tally come front = record
 
 -- After the row here.
 pub front_kept : (plan : Planned) (from : Position) (r : RunState) (held0 held : Option (List ℕ)) (faults0 faults : ℕ) (tally : Tally)
-    → Kept plan from r held0 held faults0 faults tally → PutsRestFront plan from held0 held
+    → Kept plan from r held0 held faults0 faults tally → AppendsRestPrefix plan from held0 held
 front_kept plan from r held0 held faults0 faults tally kept = record {
   begins = λ stands ending rest.
       let on = kept.at.walked stands ending rest in
@@ -212,7 +212,7 @@ traced plan from held0 held held' report composed first put rest =
     }
 
 traced_front : (plan : Planned) (from : Position) (held0 held held' : Option (List ℕ)) → plan.run ≡ run_of plan.system → from ≡ first_position plan.run
-    → Appends held0 held (header_of plan.system) → PutsRestFront plan from held held' → PutsFront plan.system held0 held'
+    → Appends held0 held (header_of plan.system) → AppendsRestPrefix plan from held held' → AppendsTracePrefix plan.system held0 held'
 traced_front plan from held0 held held' composed first put front = record {
   begins = λ rows last ending trace.
       let stands : GoesOnFrom plan.run from trace.stands ending =
@@ -230,18 +230,18 @@ traced_ok plan from held0 held held' (Ok report) composed first put rest = trace
 traced_ok plan from held0 held held' (Err fault) composed first put rest = tt
 
 pub traced_err : (plan : Planned) (from : Position) (held0 held held' : Option (List ℕ)) (result : Result Report CrewFault) → plan.run ≡ run_of plan.system
-    → from ≡ first_position plan.run → Appends held0 held (header_of plan.system) → OnErr result (PutsRestFront plan from held held')
-    → OnErr result (PutsFront plan.system held0 held')
+    → from ≡ first_position plan.run → Appends held0 held (header_of plan.system) → OnErr result (AppendsRestPrefix plan from held held')
+    → OnErr result (AppendsTracePrefix plan.system held0 held')
 traced_err plan from held0 held held' (Ok report) composed first put front = tt
 traced_err plan from held0 held held' (Err fault) composed first put front = traced_front plan from held0 held held' composed first put front
 
-pub front_header : (system : System) (held held' : Option (List ℕ)) → AppendsPrefix held held' (header_of system) → PutsFront system held held'
+pub front_header : (system : System) (held held' : Option (List ℕ)) → AppendsPrefix held held' (header_of system) → AppendsTracePrefix system held held'
 front_header system held held' front = record {
   begins = λ rows last ending trace.
       subst (AppendsPrefix held held') (text_is system rows) (AppendsPrefix-longer held held' (header_of system) (lines_of system rows) front);
 }
 
-pub front_none : (system : System) (held : Option (List ℕ)) → PutsFront system held held
+pub front_none : (system : System) (held : Option (List ℕ)) → AppendsTracePrefix system held held
 front_none system held = front_header system held held (AppendsPrefix-nil held (header_of system))
 
 -- ---- How many cells were filled

@@ -62,7 +62,7 @@ pub record ReportsRest (plan : Planned) (at : Position) (old new : Option (List 
   pub tickets : AreTicketsTold report
 
 -- The written bytes are a prefix of the lines of the position's rest, for each rest that it has.
-pub record PutsRestFront (plan : Planned) (at : Position) (old new : Option (List ℕ)) : Type 0 where
+pub record AppendsRestPrefix (plan : Planned) (at : Position) (old new : Option (List ℕ)) : Type 0 where
   pub begins : (stands : List Stand) (ending : Ending) → GoesOnFrom plan.run at stands ending
       → AppendsPrefix old new (lines_of plan.system (rows_of plan.run stands))
 
@@ -80,5 +80,5 @@ pub record ReportsTrace (system : System) (old new : Option (List ℕ)) (report 
   pub tickets : AreTicketsTold report
 
 -- The written bytes are a prefix of the text of the system's trace, for each trace that it has.
-pub record PutsFront (system : System) (old new : Option (List ℕ)) : Type 0 where
+pub record AppendsTracePrefix (system : System) (old new : Option (List ℕ)) : Type 0 where
   pub begins : (rows : List Row) (last : Point) (ending : Ending) → IsTraceOf system rows last ending → AppendsPrefix old new (trace_text system rows)

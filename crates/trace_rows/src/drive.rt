@@ -4,7 +4,7 @@ ghost use Rattle.trace_core.specs.Runs.{AreCellsFull, IsOpened, RunState, Stands
 ghost use Rattle.trace_core.specs.Settling.{Settled};
 ghost use Rattle.trace_rows.specs.Faults.{TellsFault};
 ghost use Rattle.trace_rows.specs.Passing.{AreStepsThere, IsFresh, WentOn};
-ghost use Rattle.trace_rows.specs.Reports.{PutsFront, PutsRestFront, ReportsRest, ReportsTrace, TellsRun};
+ghost use Rattle.trace_rows.specs.Reports.{AppendsTracePrefix, AppendsRestPrefix, ReportsRest, ReportsTrace, TellsRun};
 ghost use Rattle.unit_tree.specs.Successor.{first_position};
 
 use crate::fault::CrewFault;
@@ -79,7 +79,7 @@ pub fn put_rest<D: Drive, O: Sink>(
     requires stands { Stands (D.state drive.old) }
     ensures whole { IfOk result (ReportsRest plan.now (D.state drive.old).opened (O.held out.old) (O.held out.new)) }
     ensures told { IfOk result (TellsRun (D.state drive.new)) }
-    ensures front { OnErr result (PutsRestFront plan.now (D.state drive.old).opened (O.held out.old) (O.held out.new)) }
+    ensures front { OnErr result (AppendsRestPrefix plan.now (D.state drive.old).opened (O.held out.old) (O.held out.new)) }
     ensures cause { TellsFault (O.faults out.old) (O.faults out.new) result }
 {
     let mut tally = Tally::new();
@@ -110,7 +110,7 @@ pub fn put_trace<D: Drive, O: Sink>(
     requires stands { Stands (D.state drive.old) }
     ensures whole { IfOk result (ReportsTrace plan.now.system (O.held out.old) (O.held out.new)) }
     ensures told { IfOk result (TellsRun (D.state drive.new)) }
-    ensures front { OnErr result (PutsFront plan.now.system (O.held out.old) (O.held out.new)) }
+    ensures front { OnErr result (AppendsTracePrefix plan.now.system (O.held out.old) (O.held out.new)) }
     ensures cause { TellsFault (O.faults out.old) (O.faults out.new) result }
     ensures bounded { IfOk result (λ report. report.found + report.own ≤ 2 * length plan.now.run.members * report.rows) }
 {

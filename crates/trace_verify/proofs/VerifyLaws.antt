@@ -11,7 +11,7 @@ use Rattle.super_time.specs.declared.point.Point.{Point}
 use Rattle.trace_csv.specs.Columns.{columns_of, title_of}
 use Rattle.trace_csv.specs.TraceText.{row_fields, trace_text}
 use Rattle.trace_plan.specs.Plans.{Planned}
-use Rattle.trace_rows.specs.Reports.{PutsFront, ReportsTrace}
+use Rattle.trace_rows.specs.Reports.{AppendsTracePrefix, ReportsTrace}
 use Rattle.trace_rows.specs.declared.fault.CrewFault.{CrewFault}
 use Rattle.trace_rows.specs.declared.report.Report.{Report}
 use Rattle.trace_verify.specs.Comparing.{Begins, Compared, all_held, begun, marked, text_put}
@@ -138,10 +138,10 @@ plan_ranged plan one system is told ranged = subst (λ (p : Planned). IsRanged p
 module _ (system : System) (table : List ℕ) (new : Compared) (ran : Result Report CrewFault) (ranged : IsRanged system)
     (once : HasOneList system)
     (whole : IfOk ran (ReportsTrace system (Some (all_held (begun table))) (Some (all_held new))))
-    (front : OnErr ran (PutsFront system (Some (all_held (begun table))) (Some (all_held new)))) where
+    (front : OnErr ran (AppendsTracePrefix system (Some (all_held (begun table))) (Some (all_held new)))) where
   put_by : (rows : List Row) (last : Point) (ending : Ending) → IsTraceOf system rows last ending → (told : Result Report CrewFault)
       → IfOk told (ReportsTrace system (Some (all_held (begun table))) (Some (all_held new)))
-      → OnErr told (PutsFront system (Some (all_held (begun table))) (Some (all_held new)))
+      → OnErr told (AppendsTracePrefix system (Some (all_held (begun table))) (Some (all_held new)))
       → (new.table ≡ table) × Begins (is_ok told) (text_put new) (trace_text system rows)
   put_by rows last ending trace (Ok report) reports fronts =
       let put = held_by table (trace_text system reports.rows) new reports.out in

@@ -19,7 +19,7 @@ use Rattle.unit_tree.specs.declared.line_form.LineForm.TheVariants as form
 use Rattle.unit_tree.specs.declared.system.System.{System}
 use Rattle.unit_text.specs.Laws.{IsAnswered, HasOneReading, SaysOneSystem, EveryTextIsAnsweredOnce}
 use Rattle.unit_text.specs.Reading.{blank_rule}
-use Rattle.text_lines.specs.Seen.{IsClean}
+use Rattle.text_lines.specs.LineClass.{IsClean}
 use Rattle.unit_text.specs.Nesting.{Nested, headed_by, and_form, nested_forms}
 use Rattle.unit_text.proofs.NestingLaws.{before_next, same_parts, whole_forms, parts_close}
 use Rattle.text_laws.proofs.RefusalSteps.{unbroken, IsUnbroken, AreUnbroken, IsLeast, first_broken, no_break}
@@ -35,13 +35,13 @@ use Rattle.list_laws.proofs.Lists.{none_cut}
 -- ---- Any line
 
 -- What is known of a line by its bytes.
-pub data Seen (line : List ℕ) : Type 0 where
-  HasForbidden : has_forbidden_byte line ≡ true → Seen line
-  IsLong : has_forbidden_byte line ≡ false → line_limit < length line → Seen line
-  IsBlank : IsClean line → is_blank_line line ≡ true → Seen line
-  IsWritten : IsClean line → is_blank_line line ≡ false → Seen line
+pub data LineClass (line : List ℕ) : Type 0 where
+  HasForbidden : has_forbidden_byte line ≡ true → LineClass line
+  IsLong : has_forbidden_byte line ≡ false → line_limit < length line → LineClass line
+  IsBlank : IsClean line → is_blank_line line ≡ true → LineClass line
+  IsWritten : IsClean line → is_blank_line line ≡ false → LineClass line
 
-seen : (line : List ℕ) → Seen line
+seen : (line : List ℕ) → LineClass line
 seen line = elim (cases_Bool (has_forbidden_byte line)) [
   | inl told ↦ HasForbidden told
   | inr clean ↦ elim (cases_lt line_limit (length line)) [
@@ -91,7 +91,7 @@ one_more known text version before nested line so_far = by_bytes (seen line)
     by_form clean here (inr none) = Stops 4 (formless_breaks text before line clean here none)
     by_form clean here (inl found) = by_place clean found.0 found.1 (cases_Bool (may_stand (before_next nested) found.0))
 
-    by_bytes : Seen line → OneMore text before line
+    by_bytes : LineClass line → OneMore text before line
     by_bytes (HasForbidden told) = Stops 1 (bytes_break text before line told)
     by_bytes (IsLong bytes long) = Stops 3 (length_breaks text before line bytes long)
     by_bytes (IsBlank clean blank) = GoesOn nested (nest_blank text before line nested so_far clean blank)
@@ -160,7 +160,7 @@ one_first known text version before line so_far = by_bytes (seen line)
     by_form clean here (inr none) = Stops 4 (formless_breaks text before line clean here none)
     by_form clean here (inl found) = by_head clean found.0 found.1 (heads found.0) (cases_Bool (may_stand no_lines found.0))
 
-    by_bytes : Seen line → OneFirst text before line
+    by_bytes : LineClass line → OneFirst text before line
     by_bytes (HasForbidden told) = Stops 1 (bytes_break text before line told)
     by_bytes (IsLong bytes long) = Stops 3 (length_breaks text before line bytes long)
     by_bytes (IsBlank clean blank) = StaysBlank (blank_more text before line so_far clean blank)

@@ -26,11 +26,11 @@ use Rattle.unit_text.specs.Nesting.{nested_forms, blocks_of}
 use Rattle.unit_text.specs.Numbering.{place_in, place_of, group_of, bare_numbers, with_group, with_line, marks_of, with_marks, in_order}
 use Rattle.unit_text.specs.Reading.{IsWritten, IsHeadless, FirstGives, FormIn, LineGives, WholeGives, blank_rule, FirstAt, HeadsText, HeadBreaks, HeaderGives}
 use Rattle.unit_text.specs.Reading.{AnswersAt, AnswersText}
-use Rattle.text_lines.specs.Seen.{IsClean, TellsOf}
+use Rattle.text_lines.specs.LineClass.{IsClean, TellsOf}
 use Rattle.unit_text.specs.declared.draft.Draft.{Draft}
 use Rattle.unit_text.specs.declared.fault.TextFault.{TextFault}
 use Rattle.unit_text.specs.declared.fault.TextFault.TheVariants as fault
-use Rattle.text_lines.specs.declared.lines.Seen.TheVariants as told
+use Rattle.text_lines.specs.declared.lines.LineClass.TheVariants as told
 use Rattle.unit_text.specs.declared.numbers.Group.{Group}
 use Rattle.unit_text.specs.declared.numbers.Mark.{Mark}
 use Rattle.unit_text.specs.declared.numbers.Numbers.{Numbers}

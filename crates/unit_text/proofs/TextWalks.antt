@@ -17,7 +17,7 @@ use Rattle.unit_tree.specs.declared.line_form.LineForm.TheVariants as form
 use Rattle.unit_tree.specs.declared.token.Token.{Token}
 use Rattle.text_tokens.proofs.TokenLemmas.{spells_one}
 use Rattle.text_lines.specs.Laws.{HasOneForm}
-use Rattle.text_lines.specs.Seen.{IsClean}
+use Rattle.text_lines.specs.LineClass.{IsClean}
 use Rattle.unit_text.specs.Nesting.{Nested, headed_by, and_form, nested_forms}
 use Rattle.unit_text.proofs.NestingLaws.{before_next, is_held, adds}
 use Rattle.text_laws.proofs.RefusalSteps.{IsUnbroken, AreUnbroken, IsLeast, unbroken, least}

@@ -17,11 +17,11 @@ use Rattle.text_tokens.specs.declared.fault.Unread.TheVariants as unread
 use Rattle.unit_text.specs.Drafts.{with_form, whole_system}
 use Rattle.text_lines.specs.LineReading.{LineHas}
 use Rattle.unit_text.specs.Numbering.{place_in, group_of, bare_numbers, with_marks, in_order}
-use Rattle.text_lines.specs.Seen.{IsClean, TellsOf}
+use Rattle.text_lines.specs.LineClass.{IsClean, TellsOf}
 use Rattle.unit_text.specs.declared.draft.Draft.{Draft}
 use Rattle.unit_text.specs.declared.fault.TextFault.{TextFault}
 use Rattle.unit_text.specs.declared.fault.TextFault.TheVariants as fault
-use Rattle.text_lines.specs.declared.lines.Seen.TheVariants as told
+use Rattle.text_lines.specs.declared.lines.LineClass.TheVariants as told
 use Rattle.unit_text.specs.declared.numbers.Group.{Group}
 use Rattle.unit_text.specs.declared.numbers.Mark.{Mark}
 use Rattle.unit_text.specs.declared.reading.ReadText.{ReadText}

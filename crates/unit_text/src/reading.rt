@@ -15,7 +15,7 @@ use fixed_words::List;
 use model_rules::{LONGEST_LINE, LONGEST_TEXT, Rule};
 use std::alloc::Global;
 use text_lines::{
-    Seen, VERSION_2, form_of_line, is_blank_line, is_of_version_2, look_at, without_return,
+    LineClass, VERSION_2, form_of_line, is_blank_line, is_of_version_2, look_at, without_return,
 };
 use text_tokens::{Unread, cut_line, size};
 use unit_tree::{LineForm, System};
@@ -171,12 +171,12 @@ fn with_line(
     ensures { AnswersAt number (LineGives draft line.now) result }
 {
     match look_at(line) {
-        Seen::Broken(rule) => {
+        LineClass::Broken(rule) => {
             drop(draft);
             Err(TextFault::Line { line: number, rule })
         }
-        Seen::Blank => Ok((draft, None)),
-        Seen::Written => with_written(alloc, draft, line, number),
+        LineClass::Blank => Ok((draft, None)),
+        LineClass::Written => with_written(alloc, draft, line, number),
     }
 }
 
@@ -250,9 +250,9 @@ fn header_of(alloc: Global, text: &[u8]) -> Result<(u8, u32, &[u8]), TextFault>
         rest = behind;
         number += 1;
         match look_at(line) {
-            Seen::Broken(rule) => return Err(TextFault::Line { line: number, rule }),
-            Seen::Blank => {}
-            Seen::Written => {
+            LineClass::Broken(rule) => return Err(TextFault::Line { line: number, rule }),
+            LineClass::Blank => {}
+            LineClass::Written => {
                 return match version_of(alloc, line, number) {
                     Ok(version) => Ok((version, number, rest)),
                     Err(fault) => Err(fault),

@@ -4,12 +4,12 @@ ghost use Rattle.std.specs.Arc.{arc_value};
 ghost use Rattle.front_cell.specs.Front.{opening};
 ghost use Rattle.trace_core.specs.Runs.{IsOpened, Stands};
 ghost use Rattle.trace_rows.specs.Faults.{TellsFault};
-ghost use Rattle.trace_rows.specs.Reports.{PutsFront, ReportsTrace};
+ghost use Rattle.trace_rows.specs.Reports.{AppendsTracePrefix, ReportsTrace};
 ghost use Rattle.unit_tree.specs.Successor.{first_position};
 
 use crate::coordinator::{Closed, Coordinator, Guessing};
 use crate::gate::Gate;
-use crate::worker::{Home, Seat, Tickets, Watch, Worker, Workplace, Works};
+use crate::worker::{Home, Tickets, Watch, Worker, WorkerView, Workplace, Works};
 use cosim_io::Sink;
 use crew_lanes::{Desk, Patience, TicketSums};
 use fixed_words::NoMemory;
@@ -119,7 +119,7 @@ fn make_crew<R: Wait>(
     for (number, hand) in (0..workers).zip(hands) {
         let front = Arc::clone(&shared.front)?;
         let reader = front.split(rt, writer);
-        let seat = Seat {
+        let seat = WorkerView {
             watch: Watch { front, reader },
             desk: Arc::clone(&shared.desk)?,
             home: Home { number, workers },
@@ -161,7 +161,7 @@ fn patience_of(alloc: Global, plan: &Plan) -> Result<Vec<Patience>, NoMemory> {
 /// An opened run with its crew: the coordinator that drives it, the workers, which are not started, and a place for the thread of
 /// each.
 #[derive(Drop)]
-struct Opened<'a, R, G> {
+struct OpenedCrew<'a, R, G> {
     coordinator: Coordinator<'a, R, G>,
     crew: Vec<Worker>,
     threads: Vec<Option<JoinHandle<()>>>,
@@ -175,7 +175,7 @@ fn open_crew<'a, R: Threads + Wait + Copy + Send + Drop + 'static, G: Gate>(
     workers: u32,
     guessing: Guessing,
     gate: &'a G,
-) -> Result<Opened<'a, R, G>, NoMemory>
+) -> Result<OpenedCrew<'a, R, G>, NoMemory>
     ensures opened { IfOk result (λ made. IsOpened plan.now.value (first_position plan.now.value.run) made.coordinator.run) }
     ensures stands { IfOk result (λ made. Stands made.coordinator.run) }
 {
@@ -199,7 +199,7 @@ fn open_crew<'a, R: Threads + Wait + Copy + Send + Drop + 'static, G: Gate>(
         patience,
         gate,
     };
-    Ok(Opened {
+    Ok(OpenedCrew {
         coordinator,
         crew,
         threads,
@@ -291,7 +291,7 @@ pub fn run_crew<R: Threads + Wait + Copy + Send + Drop + 'static, O: Sink, G: Ga
     requires workers { workers ≤ 16 }
     requires window { window ≤ 16 }
     ensures whole { IfOk result (ReportsTrace plan.value.system (O.held out.old) (O.held out.new)) }
-    ensures front { OnErr result (PutsFront plan.value.system (O.held out.old) (O.held out.new)) }
+    ensures front { OnErr result (AppendsTracePrefix plan.value.system (O.held out.old) (O.held out.new)) }
     ensures cause { TellsFault (O.faults out.old) (O.faults out.new) result }
     ensures bounded { IfOk result (λ report. report.found + report.own ≤ 2 * length plan.value.run.members * report.rows) }
 {
@@ -300,7 +300,7 @@ pub fn run_crew<R: Threads + Wait + Copy + Send + Drop + 'static, O: Sink, G: Ga
         window: cut_window(&plan, window),
         policy,
     };
-    let Opened {
+    let OpenedCrew {
         mut coordinator,
         crew,
         threads,

@@ -99,7 +99,7 @@ impl Home {
 
 /// What a worker sees of the run, and its home lanes.
 #[derive(Drop)]
-pub(crate) struct Seat {
+pub(crate) struct WorkerView {
     pub(crate) watch: Watch,
     pub(crate) desk: Arc<Desk>,
     pub(crate) home: Home,
@@ -138,7 +138,7 @@ impl Tickets {
 /// What a worker has.
 #[derive(Drop)]
 pub(crate) struct Worker {
-    pub(crate) seat: Seat,
+    pub(crate) seat: WorkerView,
     pub(crate) tickets: Tickets,
     /// One for each instance.
     pub(crate) workplaces: Vec<Workplace>,
@@ -150,7 +150,7 @@ pub(crate) trait Works<T, P> {
     fn work<R: Wait>(self, tickets: T, workplaces: P, rt: &R);
 }
 
-impl Works<Tickets, Vec<Workplace>> for Seat {
+impl Works<Tickets, Vec<Workplace>> for WorkerView {
     fn work<R: Wait>(self, tickets: Tickets, workplaces: Vec<Workplace>, rt: &R) {
         let worker = Worker {
             seat: self,

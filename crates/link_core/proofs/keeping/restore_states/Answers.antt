@@ -3,7 +3,7 @@ use Rattle.std.proofs.lemmas.Slice.Zip.{AllZip-long}
 use Rattle.link_core.proofs.KeepLaws.{fits, none_kept, restored_next}
 use Rattle.link_core.proofs.LoopLaws.{all_made}
 use Rattle.link_core.proofs.StageBodies.{as_many_mapped}
-use Rattle.link_core.proofs.TryLaws.{fleet_is}
+use Rattle.link_core.proofs.TriedSteps.{fleet_is}
 use Rattle.link_core.proofs.keeping.restore_states.Goals as goal
 
 pub loop-instance-init : goal.loop-instance-init

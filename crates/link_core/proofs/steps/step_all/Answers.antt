@@ -2,7 +2,7 @@ use Rattle.std.proofs.Common.{◌∙◌, ◌<◌, length, refl, subst, sym, arit
 use Rattle.std.proofs.lemmas.Slice.Zip.{AllZip-long}
 use Rattle.link_core.specs.Noted.{stepped}
 use Rattle.link_core.proofs.LoopLaws.{all_made, none_made}
-use Rattle.link_core.proofs.TryLaws.{fleet_is, stepped_long, stepping_next}
+use Rattle.link_core.proofs.TriedSteps.{fleet_is, stepped_long, stepping_next}
 use Rattle.link_core.proofs.steps.step_all.Goals as goal
 use Rattle.port_solve.specs.Solved.{HaveStates}
 use Rattle.trace_plan.specs.Plans.{Planned}

@@ -1,6 +1,6 @@
 use Rattle.std.proofs.Common.{◌≡◌}
 use Rattle.link_core.specs.Noted.{stepped}
-use Rattle.link_core.proofs.TryLaws.{Stepping}
+use Rattle.link_core.proofs.TriedSteps.{Stepping}
 use Rattle.link_core.proofs.steps.step_all.Given as goal
 use Rattle.unit_tree.specs.Negotiation.{all_inputs}
 use Rattle.unit_tree.specs.Ports.{Ports}

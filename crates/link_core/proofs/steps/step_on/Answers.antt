@@ -1,5 +1,5 @@
 use Rattle.std.proofs.Common.{ap, refl}
-use Rattle.link_core.proofs.TryLaws.{is_stepped, stays_held, stays_not_own, steps_plan}
+use Rattle.link_core.proofs.TriedSteps.{is_stepped, stays_held, stays_not_own, steps_plan}
 use Rattle.link_core.proofs.steps.step_on.Goals as goal
 use Rattle.super_time.specs.LocalTime.{local_step, local_time}
 use Rattle.trace_plan.specs.Plans.{Planned}

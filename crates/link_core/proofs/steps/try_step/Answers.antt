@@ -1,5 +1,5 @@
 use Rattle.std.proofs.Common.{◌∙◌, ap, length, subst}
-use Rattle.link_core.proofs.TryLaws.{put_back, shaped_same, steps_plan, tried}
+use Rattle.link_core.proofs.TriedSteps.{put_back, shaped_same, steps_plan, tried}
 use Rattle.link_core.proofs.steps.try_step.Goals as goal
 use Rattle.port_solve.specs.Solved.{HaveStates}
 use Rattle.trace_plan.specs.Plans.{Planned}

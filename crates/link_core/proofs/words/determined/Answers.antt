@@ -1,7 +1,7 @@
 use Rattle.std.proofs.Common.{◌≡◌, ◌∙◌, ◌<◌, length, refl, ap, subst, sym}
 use Rattle.std.proofs.lemmas.Option.{slice_get_read}
 use Rattle.std.specs.Prelude.{slice_get, Some}
-use Rattle.link_core.proofs.AskLaws.{asked_there, undefined_there, word_fits}
+use Rattle.link_core.proofs.AskedOutputs.{asked_there, undefined_there, word_fits}
 use Rattle.link_core.proofs.words.determined.Goals as goal
 use Rattle.port_solve.specs.Solved.{HaveStates}
 use Rattle.trace_plan.specs.Plans.{Planned}

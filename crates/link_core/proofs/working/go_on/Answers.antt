@@ -4,8 +4,8 @@ use Rattle.link_laws.specs.Making.{ports_in}
 use Rattle.link_laws.specs.Nodes.{Making}
 use Rattle.link_core.specs.Noted.{AreFed, making_in}
 use Rattle.link_laws.specs.Boards.{are_nothing}
-use Rattle.link_core.proofs.AllLaws.{fed_here}
-use Rattle.link_core.proofs.GoLaws.{moved_on}
+use Rattle.link_core.proofs.MakingAll.{fed_here}
+use Rattle.link_core.proofs.NextRows.{moved_on}
 use Rattle.link_laws.proofs.PlaceLaws.{nothing_fed}
 use Rattle.link_core.proofs.working.go_on.Goals as goal
 use Rattle.port_solve.specs.Solved.{HaveInputs, HaveStates, HaveTheirWords}

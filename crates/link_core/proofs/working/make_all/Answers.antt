@@ -1,7 +1,7 @@
 use Rattle.std.proofs.Common.{◌≡◌, ◌∙◌, ap, refl, subst, sym}
 use Rattle.link_laws.specs.Making.{limits_by, ports_in, redos_by, replies_by}
 use Rattle.link_core.specs.Noted.{IsTrue, making_in, part_at}
-use Rattle.link_core.proofs.AllLaws.{fed_here, made_all, true_four, true_one, true_three, true_two, words_four, words_three, words_two}
+use Rattle.link_core.proofs.MakingAll.{fed_here, made_all, true_four, true_one, true_three, true_two, words_four, words_three, words_two}
 use Rattle.link_core.proofs.working.make_all.Goals as goal
 use Rattle.port_solve.specs.Solved.{HaveInputs, HaveStates, HaveTheirWords}
 use Rattle.trace_plan.specs.Plans.{Planned}

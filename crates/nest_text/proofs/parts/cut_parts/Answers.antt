@@ -1,6 +1,6 @@
 use Rattle.std.proofs.Common.{◌≡◌, refl, subst}
 use Rattle.nest_text.specs.Reading.{MainIs, OfLines, first_stray}
-use Rattle.nest_text.specs.declared.place.Place.TheVariants.{BeforeParts}
+use Rattle.nest_text.specs.declared.place.PartPlace.TheVariants.{BeforeParts}
 use Rattle.nest_text.proofs.TextCuts.{breaks_stray, cuts_text, no_main}
 use Rattle.nest_text.proofs.parts.cut_parts.Goals as goal
 

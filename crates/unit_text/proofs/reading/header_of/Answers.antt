@@ -1,8 +1,8 @@
 use Rattle.std.proofs.Common.{◌≡◌, ◌+◌, length, arith, inr, sym, subst}
 use Rattle.std.proofs.lemmas.Bool.Decides.{nat_tests}
 use Rattle.unit_text.specs.Reading.{FirstAt}
-use Rattle.text_lines.specs.Seen.{TellsOf}
-use Rattle.text_lines.specs.declared.lines.Seen.TheVariants as told
+use Rattle.text_lines.specs.LineClass.{TellsOf}
+use Rattle.text_lines.specs.declared.lines.LineClass.TheVariants as told
 use Rattle.unit_text.proofs.ReadingLaws.{blank_end, first_at, head_answer}
 use Rattle.unit_text.proofs.reading.header_of.Goals as goal
 

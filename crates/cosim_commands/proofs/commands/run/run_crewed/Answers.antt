@@ -1,5 +1,5 @@
 use Rattle.std.proofs.Common.{Err, refl, ap, subst}
-use Rattle.trace_rows.specs.Reports.{PutsFront, ReportsTrace}
+use Rattle.trace_rows.specs.Reports.{AppendsTracePrefix, ReportsTrace}
 use Rattle.trace_rows.specs.declared.fault.CrewFault.{CrewFault}
 use Rattle.trace_rows.proofs.RunEnds.{front_none}
 use Rattle.trace_plan.specs.Plans.{Planned}
@@ -24,14 +24,14 @@ returns-in-Ok g c = (
 
 pub returns-in-Err-WriteFault : goal.returns-in-Err-WriteFault
 returns-in-Err-WriteFault g c = (
-  subst (λ (p : Planned). PutsFront p.system (g.O.Sink.held c.args.out.now) (g.O.Sink.held c.run_crew.new.out))
+  subst (λ (p : Planned). AppendsTracePrefix p.system (g.O.Sink.held c.args.out.now) (g.O.Sink.held c.run_crew.new.out))
       c.in_ok-clone.ensures.cases c.in-Err-WriteFault.ensures.front,
   c.in-Err-WriteFault.ensures.cause.failed (ap (λ (e : CrewFault). Err e) c.in-Err-WriteFault.field-0-is),
 )
 
 pub returns-in-Err-NoMemory : goal.returns-in-Err-NoMemory
 returns-in-Err-NoMemory g c = (
-  subst (λ (p : Planned). PutsFront p.system (g.O.Sink.held c.args.out.now) (g.O.Sink.held c.run_crew.new.out))
+  subst (λ (p : Planned). AppendsTracePrefix p.system (g.O.Sink.held c.args.out.now) (g.O.Sink.held c.run_crew.new.out))
       c.in_ok-clone.ensures.cases c.in-Err-NoMemory.ensures.front,
   c.in-Err-NoMemory.ensures.cause.same (λ e. absurd (cc)),
 )

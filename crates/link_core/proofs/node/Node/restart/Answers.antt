@@ -5,7 +5,7 @@ use Rattle.link_core.specs.NodeStates.{NodeState}
 use Rattle.link_laws.specs.Nodes.{Making, Progress, restarted}
 use Rattle.link_laws.specs.Boards.{are_nothing}
 use Rattle.link_core.specs.Ready.{IsJudged, progress_in}
-use Rattle.link_core.specs.declared.course.Course.{Course}
+use Rattle.link_core.specs.declared.course.NodePosition.{NodePosition}
 use Rattle.link_core.proofs.KeepLaws.{restarted_is}
 use Rattle.link_core.proofs.RoomLaws.{words_in}
 use Rattle.link_laws.proofs.PairLaws.{restart_keeps}
@@ -24,7 +24,7 @@ invariant_of-self c =
     let judged = subst (λ (p : Planned). IsJudged p.run) c.deref.ensures c.judged.ensures in
     let restored = c.restore_states.ensures.units in
     let states = ap (λ (f : Fleet). f.states) restored ∙ ap (map words_in) c.deref-2.ensures.value in
-    let again : Course = record {
+    let again : NodePosition = record {
       point = n.kept.point;
       number = n.kept.number;
       ended = None;
@@ -60,7 +60,7 @@ returns-clause-restarted c =
     let set = c.self.invariant.is_set in
     let run = n.plan.value.run in
     let states = ap (λ (f : Fleet). f.states) c.restore_states.ensures.units ∙ ap (map words_in) c.deref-2.ensures.value in
-    let again : Course = record {
+    let again : NodePosition = record {
       point = n.kept.point;
       number = n.kept.number;
       ended = None;

@@ -1,5 +1,5 @@
 use Rattle.link_nodes.proofs.ShownRowLaws.{no_rows, no_row_there}
-use Rattle.link_nodes.proofs.row_room.RowRoom.show.Goals as goal
+use Rattle.link_nodes.proofs.row_room.RowPrinter.show.Goals as goal
 
 pub returns-then-not-comes-clause-whole : goal.returns-then-not-comes-clause-whole
 returns-then-not-comes-clause-whole g c = no_rows c.args.plan.now c.args.going c.args.node.now.progress c.args.taken c.comes-comes.result

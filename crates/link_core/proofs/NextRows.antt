@@ -7,7 +7,7 @@ use Rattle.link_laws.specs.Nodes.{Making, Progress, moved}
 use Rattle.link_core.specs.Noted.{AreNotes, forgotten, making_in, part_at, place_of, stepped}
 use Rattle.link_laws.specs.Boards.{are_nothing}
 use Rattle.link_core.specs.Ready.{kept_in, progress_in, shown_in}
-use Rattle.link_core.specs.declared.course.Course.{Course}
+use Rattle.link_core.specs.declared.course.NodePosition.{NodePosition}
 use Rattle.link_core.specs.declared.course.Kept.{Kept}
 use Rattle.link_core.specs.declared.course.Shown.{Shown}
 use Rattle.link_laws.specs.declared.fact.Fact.{Fact}
@@ -55,7 +55,7 @@ known_is run notes cleared noted notes_are =
     ∙ ap₂ (λ r d. record { words = map (λ name. None) (names_of run); limits = map (λ member. None) run.members; replies = r; redos = d }) replies redos
 
 module _ (run : Composition) (owners : List ℕ) (me : ℕ) (owns : length owners ≡ length run.members) (states after : List (List ℤ)) (notes cleared : Notes)
-    (course : Course) (kept : Kept) (point : Point) (shown : Shown) (h : ℕ)
+    (course : NodePosition) (kept : Kept) (point : Point) (shown : Shown) (h : ℕ)
     (long : length states ≡ length run.members) (noted : AreNotes run notes) where
   abbrev known : Board
   known = (making_in notes).known

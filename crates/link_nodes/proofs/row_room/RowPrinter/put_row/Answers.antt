@@ -3,7 +3,7 @@ use Rattle.std.specs.Io.KnownBytes.{Appends}
 use Rattle.cosim_io.specs.Pieces.{AppendsPrefix}
 use Rattle.link_nodes.specs.ShownRows.{row_told}
 use Rattle.link_nodes.proofs.RowWords.{one_line, row_words}
-use Rattle.link_nodes.proofs.row_room.RowRoom.put_row.Goals as goal
+use Rattle.link_nodes.proofs.row_room.RowPrinter.put_row.Goals as goal
 use Rattle.list_laws.proofs.Options.{on_err}
 use Rattle.trace_rows.specs.Lines.{lines_of}
 

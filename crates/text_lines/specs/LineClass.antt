@@ -2,16 +2,16 @@
 use Rattle.std.specs.Prelude.{◌≡◌, ◌≤◌, ◌<◌, ◌⊎◌, ℕ, List, length, true, false}
 use Rattle.unit_tree.specs.Lines.{is_blank_line, has_forbidden_byte}
 use Rattle.model_rules.specs.Limits.{line_limit}
-use Rattle.text_lines.specs.declared.lines.Seen.{Seen}
-use Rattle.text_lines.specs.declared.lines.Seen.TheVariants as told
+use Rattle.text_lines.specs.declared.lines.LineClass.{LineClass}
+use Rattle.text_lines.specs.declared.lines.LineClass.TheVariants as told
 
 -- The line keeps the rules that concern its bytes alone.
 pub record IsClean (line : List ℕ) : Type 0 where
   pub bytes : has_forbidden_byte line ≡ false
   pub short : length line ≤ line_limit
 
--- What a `Seen` states of a line: the least of these rules that it breaks, or whether it is blank.
-abbrev pub TellsOf : List ℕ → Seen → Type 0
+-- What a `LineClass` states of a line: the least of these rules that it breaks, or whether it is blank.
+abbrev pub TellsOf : List ℕ → LineClass → Type 0
 TellsOf line (told.Broken rule) =
     ((rule ≡ 1) × (has_forbidden_byte line ≡ true)) ⊎ ((rule ≡ 3) × (has_forbidden_byte line ≡ false) × (line_limit < length line))
 TellsOf line told.Blank = IsClean line × (is_blank_line line ≡ true)
