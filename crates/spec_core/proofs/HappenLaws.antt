@@ -1,7 +1,8 @@
 -- An event has only one reply, and leads to only one world.
-use Rattle.std.proofs.Common.{◌≡◌, ◌∙◌, ℕ, ◌+◌, ℤ, List, ◌∷◌, ◌++◌, [], length, Option, Some, None, refl, sym, ap, subst, arith, inl, inr, ◌⊎◌}
-use Rattle.std.proofs.lemmas.Option.{none-some, same_Some}
+use Rattle.std.proofs.Common.{◌≡◌, ◌∙◌, ℕ, ◌+◌, ℤ, List, ◌∷◌, ◌++◌, [], length, Some, None, refl, sym, ap, subst, arith, inl, inr, ◌⊎◌}
+use Rattle.std.proofs.lemmas.Option.{none-some}
 use Rattle.std.specs.Prelude.{slice_get}
+use Rattle.spec_core.specs.Outcomes.{IsOrdered}
 use Rattle.list_laws.proofs.Options.{some_same}
 use Rattle.code_units.specs.UnitPrograms.{program_of}
 use Rattle.guess_board.specs.Chains.{code_of}
@@ -30,23 +31,10 @@ use Rattle.unit_answers.specs.Answers.{Answered}
 use Rattle.unit_answers.specs.Keys.{StepKey}
 use Rattle.unit_exec.specs.Images.{Compiled, start_inputs_of}
 use Rattle.unit_tree.specs.Components.{Component, initial}
-use Rattle.unit_tree.specs.Compositions.{AreMembers, Composition, Member}
+use Rattle.unit_tree.specs.Compositions.{Member}
 use Rattle.unit_tree.specs.Negotiation.{all_inputs}
-use Rattle.unit_tree.specs.Ports.{IsPlaceOrder}
-use Rattle.unit_tree.specs.Successor.{Position, ends, goes}
-use Rattle.unit_tree.specs.Trace.{HasWords}
+use Rattle.unit_tree.specs.Successor.{ends, goes}
 use Rattle.unit_tree.specs.declared.ending.Ending.{Ending}
-
--- What has to hold at a position, so that the run has one successor there.
-pub record IsOrderedAt (run : Composition) (at : Position) : Type 0 where
-  pub order : List ℕ
-  pub ordered : IsPlaceOrder run order
-  pub members : AreMembers run
-  pub words : HasWords run at
-
--- It holds at the run's stand.
-abbrev pub IsOrdered : RunState → Type 0
-IsOrdered r = IsOrderedAt r.plan.run r.stand.at
 
 -- The reply and the next world are the same.
 abbrev pub AreSame : Reply → Reply → WorldState → WorldState → Type 0
@@ -283,7 +271,7 @@ no_hand : (world : WorldState) (worker : ℕ) (hand : List TicketState) → slic
 no_hand world worker hand is none = none-some hand (sym none ∙ is)
 
 -- The effect of an event that is not refused excludes that it is refused.
-not_refused : (world new : WorldState) (what : Event) (told : Reply) → Does world what told new → IsRefused world what → ⊥
+pub not_refused : (world new : WorldState) (what : Event) (told : Reply) → Does world what told new → IsRefused world what → ⊥
 not_refused world new (event.Publish instance) told does (inl ended) = true_is_false (is_ended world.run.phase) ended does.going
 not_refused world new (event.Publish instance) told does (inr full) = true_is_false (is_full does.lane) (full does.lane does.is_lane) does.room
 not_refused world new (event.Take worker instance) told does (inl none) = no_hand world worker does.hand does.is_hand none

@@ -27,7 +27,8 @@ use Rattle.spec_core.specs.declared.event.Reply.TheVariants as reply
 use Rattle.spec_core.proofs.ActLaws.{refused_so}
 use Rattle.trace_rows.proofs.Filling.{fit_long}
 use Rattle.spec_core.proofs.AnswerLaws.{posted_goes_on}
-use Rattle.spec_core.proofs.HappenLaws.{IsOrdered, code_for}
+use Rattle.spec_core.proofs.HappenLaws.{code_for}
+use Rattle.spec_core.specs.Outcomes.{IsOrdered}
 use Rattle.super_time.specs.LocalTime.{local_step, local_time}
 use Rattle.trace_core.specs.Runs.{Cell, Empty, Filled, Held, FitCells, AreCellsFull, IsWanted, RunState, arrived, is_empty_cell}
 use Rattle.trace_core.specs.Runs.{is_ended, is_held_cell, step_in, step_length, with_found, with_own}

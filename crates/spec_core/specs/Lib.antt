@@ -2,6 +2,7 @@ pub mod Draining
 pub mod Events
 pub mod Interleavings
 pub mod Keeping
+pub mod Outcomes
 pub mod Replays
 pub mod Rounds
 pub mod Tickets

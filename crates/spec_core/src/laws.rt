@@ -1,5 +1,6 @@
 //! Laws of lists of events, and of replays.
 ghost use Rattle.spec_core.specs.Interleavings.{EveryInterleavingIsTold};
+ghost use Rattle.spec_core.specs.Outcomes.{EffectsAreNotRefused, EventsHappenOnce};
 ghost use Rattle.spec_core.specs.Replays.{EverySeedIsReplayed, ReplaysAreCountedOnce};
 ghost use Rattle.spec_core.specs.Tickets.{AllTicketsAddUp, TicketsAddUp, TicketsAreOut};
 
@@ -23,4 +24,10 @@ pub fn tickets_are_in_hands()
     ensures out { TicketsAreOut }
     ensures lanes { TicketsAddUp }
     ensures sums { AllTicketsAddUp }
+{}
+
+/// A law: an event that happens to a world has one reply, and leaves one world. Where it has its effect it isn't refused.
+pub fn events_have_one_outcome()
+    ensures once { EventsHappenOnce }
+    ensures not_both { EffectsAreNotRefused }
 {}

@@ -33,6 +33,9 @@ mod world;
 pub use counts::Counts;
 pub use draws::{next_draw, worker_event};
 pub use event::{Event, Reply};
-pub use laws::{every_interleaving_is_told, every_seed_has_one_replay, tickets_are_in_hands};
+pub use laws::{
+    events_have_one_outcome, every_interleaving_is_told, every_seed_has_one_replay,
+    tickets_are_in_hands,
+};
 pub use replays::{ReplayFault, replay};
 pub use world::World;

@@ -23,3 +23,4 @@ mod samples;
 
 pub use flattening::{flatten, into_flat};
 pub use laws::nests_are_judged_once;
+pub use nest_text::{Bind, Group, Nest, NestFault, read_nest};

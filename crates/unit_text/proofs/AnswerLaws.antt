@@ -7,6 +7,7 @@ use Rattle.std.proofs.lemmas.Bool.{and_parts, cases_Bool, cases_lt, true≢false
 use Rattle.std.proofs.lemmas.Bool.Decides.{nat_tests}
 use Rattle.std.proofs.lemmas.List.{append-nil}
 use Rattle.std.proofs.lemmas.List.Elements.{filter-append}
+use Rattle.language_laws.proofs.RefusalLaws.{refused_once}
 use Rattle.unit_tree.specs.LineForms.{HasForm}
 use Rattle.unit_tree.specs.Blocks.{Block, Before, no_lines, and_line, and_lines, open_blocks, may_stand, are_placed}
 use Rattle.unit_tree.specs.Lines.{source_lines, size_of, code_of, is_code_byte, is_blank_line, has_forbidden_byte}
@@ -418,4 +419,5 @@ answered_once known text = record {
   one_reading = one_reading known text;
   one_system = one_system known text;
   not_both = not_both known text;
+  one_refusal = refused_once text;
 }

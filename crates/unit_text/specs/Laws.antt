@@ -27,6 +27,7 @@ pub record IsAnsweredOnce (text : List ℕ) : Type 0 where
   pub one_reading : HasOneReading text
   pub one_system : SaysOneSystem text
   pub not_both : (system : System) (line rule : ℕ) → Reads text system → IsRefused text line rule → ⊥
+  pub one_refusal : (line by other rule : ℕ) → IsRefused text line by → IsRefused text other rule → (line ≡ other) × (by ≡ rule)
 
 abbrev pub EveryTextIsAnsweredOnce : Type 0
 EveryTextIsAnsweredOnce = (text : List ℕ) → IsAnsweredOnce text

@@ -1,0 +1,6 @@
+pub mod WorkedEvents
+pub mod WorkedGroups
+pub mod WorkedNests
+pub mod WorkedSaved
+pub mod WorkedTables
+pub mod WorkedVerdicts
