@@ -254,6 +254,14 @@ assign_prints place (negsuc n) few small =
 
 -- ---- The longest step
 
+width_least : (tokens : List Token) → width false tokens ≤ width true tokens
+width_least [] = omega arith
+width_least (first ∷ others) = omega arith
+
+width_most : (one : Bool) (tokens : List Token) → width one tokens ≤ width true tokens
+width_most true tokens = omega arith
+width_most false tokens = width_least tokens
+
 width_append : (behind : Bool) (one other : List Token) → width behind (one ++ other) ≤ width behind one + width true other
 width_append behind [] other = omega (arith, width_most behind other)
 width_append behind (first ∷ one) other = omega (arith, width_append (is_worded first) one other)

@@ -1,9 +1,10 @@
-use Rattle.std.proofs.Common.{◌≡◌, ◌⊎◌, ◌<◌, ◌≤◌, ℕ, Bool, true, false, inl, inr, subst}
+use Rattle.std.proofs.Common.{◌≡◌, ◌⊎◌, ◌<◌, ◌≤◌, ℕ, Bool, true, false, inl, inr, subst, sym, Err}
 use Rattle.std.proofs.lemmas.Bool.Decides.{leb_tells}
 use Rattle.std.specs.Prelude.{nat_le}
 use Rattle.trace_plan.specs.Plans.{Planned}
 use Rattle.cosim_call.specs.Calls.{stream}
 use Rattle.cosim_call.specs.Coming.{Serves}
+use Rattle.cosim_call.specs.declared.coming.Stopped.TheVariants as stopped
 use Rattle.command_line.specs.declared.commands.Command.TheVariants.{Nodes}
 use Rattle.cosim_answers.specs.Answer.{Answers}
 use Rattle.cosim_answers.specs.NodesAnswers.{nodes_limit, size_for_nodes}
@@ -37,9 +38,10 @@ returns-in_err-plan g c =
 
 pub returns-then-not-is_small : goal.returns-then-not-is_small
 returns-then-not-is_small g c =
-    too_large_refused c.args.asked c.args.text.now c.in_ok-plan.plan.value c.in_ok-plan.ensures.planned c.in_ok-plan.ensures.whole
-    (stream (g.O.Sink.held c.args.out.now) (g.O.Sink.faults c.args.out.now))
-    (subst (λ (p : Planned). nodes_limit < size_for_nodes p.run) c.deref.ensures (above (size_for_nodes c.deref.result.now.run) nodes_limit c.is_small.ensures c.if-not-is_small.true))
+    let out = stream (g.O.Sink.held c.args.out.now) (g.O.Sink.faults c.args.out.now) in
+    subst (λ rule. Serves (Answers (Nodes c.args.asked) c.args.text.now) out out (Err (stopped.Refused 1 rule))) (sym c.number.ensures)
+    (too_large_refused c.args.asked c.args.text.now c.in_ok-plan.plan.value c.in_ok-plan.ensures.planned c.in_ok-plan.ensures.whole out
+    (subst (λ (p : Planned). nodes_limit < size_for_nodes p.run) c.deref.ensures (above (size_for_nodes c.deref.result.now.run) nodes_limit c.is_small.ensures c.if-not-is_small.true)))
 
 pub returns-in_err-nodes : goal.returns-in_err-nodes
 returns-in_err-nodes g c =

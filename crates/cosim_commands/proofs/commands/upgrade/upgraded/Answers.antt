@@ -10,4 +10,4 @@ returns-in-Ok c = (c.in-Ok.ensures.made, c.in-Ok.ensures.fits)
 pub returns-in-Err-TooLong : goal.returns-in-Err-TooLong
 unfolding printed_text
 returns-in-Err-TooLong c =
-    (refl, refl, subst (IsRightFault c.args.system.now) c.in-Err-TooLong.field-0-is c.in-Err-TooLong.ensures.fault)
+    (refl, c.number.ensures, subst (IsRightFault c.args.system.now) c.in-Err-TooLong.field-0-is c.in-Err-TooLong.ensures.fault)
