@@ -21,7 +21,7 @@ use Rattle.list_laws.proofs.Truths.{le_asked, not_negative}
 use Rattle.text_laws.proofs.PrintedLines.{Prints, all_short, all_writable, fixed_short, no_events, none_second, text_within}
 use Rattle.text_laws.proofs.ShortestLines.{unsigned_tokens}
 use Rattle.text_laws.proofs.SpelledBytes.{all_pass}
-use Rattle.text_laws.proofs.TokenWidths.{is_worded, tokens_within, width, width_most}
+use Rattle.text_laws.proofs.TokenWidths.{is_worded, tokens_within, width}
 use Rattle.text_tokens.specs.Scanning.{keyword_of}
 use Rattle.text_tokens.proofs.TableLemmas.{keyword_of_none}
 use Rattle.unit_tree.specs.Canonical.{canonical_forms, canonical_phrase, expression_tokens, form_tokens, line_text, node_phrase, optional, unit_parts}
