@@ -10,8 +10,8 @@ use Rattle.stimulus_tables.specs.Reading.{Gives, Took}
 use Rattle.trace_verify.specs.TraceLines.{fields_between, line_of, lines_text}
 use Rattle.trace_verify.specs.Verdicts.{column_from, verdict_by, verdict_from}
 use Rattle.stimulus_tables.specs.Records.{Fields, records_of}
-use Rattle.trace_verify.specs.declared.compare.Compared.{Compared}
-use Rattle.trace_verify.specs.declared.compare.Compared.TheVariants as course
+use Rattle.trace_verify.specs.declared.compare.ComparisonState.{ComparisonState}
+use Rattle.trace_verify.specs.declared.compare.ComparisonState.TheVariants as course
 use Rattle.trace_verify.proofs.VerdictLaws.{ColumnTold, column_told}
 
 pub judged_same : (rest : List Fields) (line : List ℕ) (fields : Fields) (reader : Reader (Bor (List ℕ))) → Took rest true fields reader
@@ -81,10 +81,10 @@ line_put records number next line old new kept is judged =
     ∙ sym (append_assoc before line (10 ∷ [])) ∙ ap (λ text. (before ++ text) ++ (10 ∷ [])) (sym (append-nil line))
 
 -- The line is compared with the next record. Where they differ, it was written to its end.
-abbrev pub seen : List ℕ → ℕ → List ℕ → Compared → ℕ → Compared
+abbrev pub seen : List ℕ → ℕ → List ℕ → ComparisonState → ℕ → Compared
 seen table number line told faults = record { table = table; number = number; line = line; course = told; faults = faults }
 
-pub same_kept : (records : List Fields) (number next : ℕ) (line after : List ℕ) (was told : Compared) (old new : Reader (Bor (List ℕ)))
+pub same_kept : (records : List Fields) (number next : ℕ) (line after : List ℕ) (was told : ComparisonState) (old new : Reader (Bor (List ℕ)))
     → IsKept records number line was old → was ≡ course.Same → told ≡ course.Same → next ≡ number + 1 → after ≡ []
     → ((rest : List Fields) → Gives old rest → IsJudged rest line new told) → IsKept records next after told new
 same_kept records number next line after was told old new kept was_same same is empty judged =
@@ -93,7 +93,7 @@ same_kept records number next line after was told old new kept was_same same is 
     subst (λ one. IsKept records next after one new) (sym same)
     (subst (λ bytes. IsKept records next bytes course.Same new) (sym empty) (kept_same records number next line old new before is now))
 
-pub same_put : (table : List ℕ) (number next faults : ℕ) (line after : List ℕ) (was told : Compared) (old new : Reader (Bor (List ℕ)))
+pub same_put : (table : List ℕ) (number next faults : ℕ) (line after : List ℕ) (was told : ComparisonState) (old new : Reader (Bor (List ℕ)))
     → IsKept (records_of table) number line was old → was ≡ course.Same → told ≡ course.Same → next ≡ number + 1 → after ≡ []
     → ((rest : List Fields) → Gives old rest → IsJudged rest line new told)
     → PutsByte (seen table number line was faults) (seen table next after told faults) 10 (goes_on told)

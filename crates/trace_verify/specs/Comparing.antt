@@ -8,8 +8,8 @@ use Rattle.trace_verify.specs.TraceLines.{fields_between, lines_text}
 use Rattle.trace_verify.specs.Verdicts.{verdict_from}
 use Rattle.stimulus_tables.specs.Records.{Fields, records_of}
 use Rattle.trace_verify.specs.declared.compare.Comparison.TheInside.{Inside}
-use Rattle.trace_verify.specs.declared.compare.Compared.{Compared}
-use Rattle.trace_verify.specs.declared.compare.Compared.TheVariants as course
+use Rattle.trace_verify.specs.declared.compare.ComparisonState.{ComparisonState}
+use Rattle.trace_verify.specs.declared.compare.ComparisonState.TheVariants as course
 use Rattle.trace_verify.specs.declared.verdict.Verdict.TheVariants.{No}
 
 -- What contracts see of a comparison: the table, the number of the next record, from 1, and the written part of the line that is
@@ -18,11 +18,11 @@ pub record Compared : Type 0 where
   pub table : List ℕ
   pub number : ℕ
   pub line : List ℕ
-  pub course : Compared
+  pub course : ComparisonState
   pub faults : ℕ
 
 -- The end of the line that differs from its record: it was written.
-abbrev pub end_put : Compared → List ℕ
+abbrev pub end_put : ComparisonState → List ℕ
 end_put (course.Differs column) = 10 ∷ []
 end_put _ = []
 
@@ -50,19 +50,19 @@ pub record IsOneLine (fields : Fields) : Type 0 where
 
 -- A line is the first of some records, and the reader returns the others; or it differs. Then the verdict is this for any lines that
 -- follow and any number of the record.
-abbrev pub IsJudged : List Fields → List ℕ → Reader (Bor (List ℕ)) → Compared → Type 0
+abbrev pub IsJudged : List Fields → List ℕ → Reader (Bor (List ℕ)) → ComparisonState → Type 0
 IsJudged rest line reader course.Same = (others : List Fields) × (rest ≡ fields_between line ∷ others) × Gives reader others
 IsJudged rest line reader (course.Differs column) =
     (number : ℕ) (more : List Fields) → verdict_from number (fields_between line ∷ more) rest ≡ No number column
 IsJudged rest line reader course.NoMemory = ⊤
 
 -- As long as all is the same, the reader returns the next records. Where a line differs, that is the verdict.
-abbrev pub IsCourse : List Fields → List ℕ → Reader (Bor (List ℕ)) → Compared → Type 0
+abbrev pub IsCourse : List Fields → List ℕ → Reader (Bor (List ℕ)) → ComparisonState → Type 0
 IsCourse rest line reader course.Same = Gives reader rest
 IsCourse rest line reader told = IsJudged rest line reader told
 
 -- The invariant of a comparison.
-pub record IsKept (records : List Fields) (number : ℕ) (line : List ℕ) (told : Compared) (reader : Reader (Bor (List ℕ))) : Type 0 where
+pub record IsKept (records : List Fields) (number : ℕ) (line : List ℕ) (told : ComparisonState) (reader : Reader (Bor (List ℕ))) : Type 0 where
   pub counted : 1 ≤ number
   pub within : number - 1 ≤ length records
   pub cut : AllByRecursion IsOneLine (take (number - 1) records)
@@ -85,7 +85,7 @@ IsComparison inside = IsKept (records_of inside.table.now) inside.number inside.
 abbrev pub begun : List ℕ → Compared
 begun table = record { table = table; number = 1; line = []; course = course.Same; faults = 0 }
 
-abbrev pub goes_on : Compared → Bool
+abbrev pub goes_on : ComparisonState → Bool
 goes_on course.Same = true
 goes_on _ = false
 

@@ -20,7 +20,7 @@ use stimulus_tables::{read_table, take_record};
 
 /// The state of a comparison.
 #[derive(Clone, Copy)]
-pub(crate) enum Compared {
+pub(crate) enum ComparisonState {
     /// All lines so far were the records of the table.
     Same,
     /// A line differs from its record, or the table has no record for it.
@@ -84,16 +84,16 @@ fn column_apart(line: &[u8], fields: &ByteRecord) -> Option<u64>
 }
 
 /// Compares a whole line with the next record, which replaces the contents of `fields`.
-fn judge(reader: &mut Reader<&[u8]>, fields: &mut ByteRecord, line: &[u8]) -> Compared
+fn judge(reader: &mut Reader<&[u8]>, fields: &mut ByteRecord, line: &[u8]) -> ComparisonState
     ensures { (rest : List Fields) → Gives reader.old rest → IsJudged rest line.now reader.new result }
 {
     match take_record(reader, fields) {
         Ok(true) => match column_apart(line, fields) {
-            Some(column) => Compared::Differs { column },
-            None => Compared::Same,
+            Some(column) => ComparisonState::Differs { column },
+            None => ComparisonState::Same,
         },
-        Ok(false) => Compared::Differs { column: 1 },
-        Err(_) => Compared::NoMemory,
+        Ok(false) => ComparisonState::Differs { column: 1 },
+        Err(_) => ComparisonState::NoMemory,
     }
 }
 
@@ -108,7 +108,7 @@ pub(crate) struct Comparison<'t> {
     number: u64,
     /// What was written so far of the line that is compared with this record, without its end.
     line: Vec<u8>,
-    course: Compared,
+    course: ComparisonState,
     faults: u64,
 }
 
@@ -133,24 +133,24 @@ impl<'t> Comparison<'t> {
             fields: ByteRecord::new(alloc),
             number: 1,
             line: Vec::new(alloc),
-            course: Compared::Same,
+            course: ComparisonState::Same,
             faults: 0,
         }
     }
 
     /// Compares the complete line with the next record.
     fn end_line(&mut self)
-        requires { self.old.course ≡ Compared.Same }
+        requires { self.old.course ≡ ComparisonState.Same }
         ensures { PutsByte self.old self.new 10 (goes_on self.new.course) }
     {
         self.course = judge(&mut self.reader, &mut self.fields, self.line.as_slice());
-        if let Compared::Same = self.course {
+        if let ComparisonState::Same = self.course {
             match self.number.checked_add(1) {
                 Some(number) => {
                     self.number = number;
                     self.line.clear();
                 }
-                None => self.course = Compared::NoMemory,
+                None => self.course = ComparisonState::NoMemory,
             }
         }
     }
@@ -164,7 +164,7 @@ impl<'t> Comparison<'t> {
         if byte == b'\n' {
             self.end_line();
         } else if self.line.push(byte).is_err() {
-            self.course = Compared::NoMemory;
+            self.course = ComparisonState::NoMemory;
         }
         self.is_same()
     }
@@ -173,7 +173,7 @@ impl<'t> Comparison<'t> {
     fn is_same(&self) -> bool
         ensures { result ≡ goes_on self.now.course }
     {
-        matches!(self.course, Compared::Same)
+        matches!(self.course, ComparisonState::Same)
     }
 
     /// Counts a write that failed.
@@ -187,7 +187,7 @@ impl<'t> Comparison<'t> {
     }
     /// Returns the verdict after a whole trace that is the same: whether the table has no further records.
     fn at_end(self) -> Result<Verdict, NoMemory>
-        requires { self.course ≡ Compared.Same }
+        requires { self.course ≡ ComparisonState.Same }
         ensures { (lines : List Fields) → AllByRecursion IsTraceLine lines → text_put self.entry ≡ lines_text lines
             → IfOk result (λ verdict. verdict ≡ verdict_of lines (records_of self.entry.table)) }
     {
@@ -210,11 +210,11 @@ impl<'t> Comparison<'t> {
             → IfOk result (λ verdict. verdict ≡ verdict_of lines (records_of self.entry.table)) }
     {
         match self.course {
-            Compared::Differs { column } => Ok(Verdict::No {
+            ComparisonState::Differs { column } => Ok(Verdict::No {
                 number: self.number,
                 column,
             }),
-            Compared::Same if whole => self.at_end(),
+            ComparisonState::Same if whole => self.at_end(),
             _ => Err(AllocError),
         }
     }

@@ -3,7 +3,7 @@ use Rattle.csv.specs.Records.{fields_of}
 use Rattle.trace_verify.specs.Comparing.{Compared, text_put}
 use Rattle.trace_verify.specs.Verdicts.{verdict_of}
 use Rattle.stimulus_tables.specs.Records.{records_of}
-use Rattle.trace_verify.specs.declared.compare.Compared.TheVariants as course
+use Rattle.trace_verify.specs.declared.compare.ComparisonState.TheVariants as course
 use Rattle.trace_verify.specs.declared.verdict.Verdict.TheVariants.{Yes, No}
 use Rattle.trace_verify.proofs.ToldLaws.{more_told, none_told}
 use Rattle.trace_verify.proofs.compare.Comparison.at_end.Goals as goal

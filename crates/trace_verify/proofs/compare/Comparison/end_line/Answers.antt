@@ -2,7 +2,7 @@ use Rattle.std.proofs.Common.{◌≡◌, ◌∙◌, List, ap, subst}
 use Rattle.trace_verify.specs.Comparing.{Compared, IsJudged, PutsByte, goes_on}
 use Rattle.stimulus_tables.specs.Reading.{Gives}
 use Rattle.stimulus_tables.specs.Records.{Fields, records_of}
-use Rattle.trace_verify.specs.declared.compare.Compared.TheVariants as course
+use Rattle.trace_verify.specs.declared.compare.ComparisonState.TheVariants as course
 use Rattle.trace_verify.proofs.CourseLaws.{same_kept, same_put, seen}
 use Rattle.trace_verify.proofs.compare.Comparison.end_line.Goals as goal
 
