@@ -81,12 +81,16 @@ def word_of(given: Given, type_name: str, what: str) -> int:
     return scaled.numerator
 
 
-def literal_of_word(word: int, type_name: str) -> str:
-    """The literal of a word, as a trace and a canonical text have it."""
-    value = value_of_word(word, type_name)
+def literal_of_value(value: Value) -> str:
+    """The literal of a value, as a trace has it."""
     if isinstance(value, bool):
         return str(value).lower()
     return f"{value:f}" if isinstance(value, Decimal) else str(value)
+
+
+def literal_of_word(word: int, type_name: str) -> str:
+    """The literal of a word, as a trace and a canonical text have it."""
+    return literal_of_value(value_of_word(word, type_name))
 
 
 def literal_of(given: Given, type_name: str, what: str) -> str:
