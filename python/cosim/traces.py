@@ -6,7 +6,7 @@ from typing import TYPE_CHECKING, Any, Dict, Iterator, List, Mapping, Optional, 
 from .canonical import Port
 from .errors import UnfitValue, UnknownName
 from .outcomes import EXCEPTIONS, UNKNOWN, Outcome
-from .values import Given, Value, fraction_of, ticks_of, values_of_fields
+from .values import Given, Value, form_of, fraction_of, ticks_of, values_of_fields
 
 if TYPE_CHECKING:
     import pandas
@@ -88,11 +88,10 @@ class Trace:
             if line.count(",") != header.count(","):
                 raise UnfitValue(f"{name}:{number}: it has {line.count(',') + 1} fields, and the header {header.count(',') + 1}")
         trace = cls(table, ports, resolution, Outcome(UNKNOWN))
-        try:
-            for row in trace:
-                assert row
-        except (ValueError, KeyError, ArithmeticError):
-            raise UnfitValue(f"{name}: a value isn't written as a trace has it") from None
+        forms = [form_of(f"Fixed {resolution}"), form_of("Fixed 0"), *(form_of(port.type, port.is_event) for port in ports)]
+        for number, record in enumerate(trace.records, 2):
+            if not all(form.fullmatch(field) for form, field in zip(forms, record)):
+                raise UnfitValue(f"{name}:{number}: a value isn't written as a trace has it")
         return trace
 
     @property

@@ -1,4 +1,5 @@
 """Values of the types of the language: exact ones of Python, and the literals and words that they are."""
+import re
 from decimal import Decimal
 from fractions import Fraction
 from numbers import Integral
@@ -44,6 +45,13 @@ def values_of_fields(fields: List[str], type_name: str) -> List[Optional[Value]]
     if decimals_of(type_name) is None:
         return [int(field) if field else None for field in fields]
     return [Decimal(field) if field else None for field in fields]
+
+
+def form_of(type_name: str, is_event: bool = False) -> "re.Pattern[str]":
+    """How a trace writes the values of a type. An event may be absent."""
+    decimals = decimals_of(type_name)
+    form = "true|false" if type_name == "Bool" else r"-?(?:0|[1-9][0-9]*)" + (rf"\.[0-9]{{{decimals}}}" if decimals else "")
+    return re.compile(f"(?:{form}){'?' if is_event else ''}")
 
 
 def fraction_of(given: Given, what: str) -> Fraction:

@@ -102,8 +102,8 @@ def forward_edges(names: Iterable[str], edges: Sequence[Edge]) -> List[Edge]:
         on_way.update(name for name, _ in way)
         while way:
             start, ends = way[-1]
-            end = next(ends, None)
-            if end is None:
+            end = next(ends, "")
+            if not end:
                 left.add(start)
                 on_way.remove(start)
                 way.pop()

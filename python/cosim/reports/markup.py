@@ -3,14 +3,12 @@ import base64
 import hashlib
 import html
 import json
-from typing import Iterable, Mapping, Sequence, Union
+from typing import Iterable, Mapping, Sequence
 
 from ..streams import escaped
 
 # A part of a page, which is written as it is; every other text goes through `text`.
 Part = str
-
-Attribute = Union[str, int, float]
 
 
 def text(given: object) -> Part:
@@ -23,12 +21,12 @@ def lines(given: str) -> Part:
     return "\n".join(text(line) for line in given.split("\n"))
 
 
-def element(name: str, content: Part = "", attributes: Mapping[str, Attribute] = {}) -> Part:
+def element(name: str, content: Part = "", attributes: Mapping[str, str] = {}) -> Part:
     """An element; `content` is a part of a page, and the values of attributes are texts."""
     return f"{opened(name, attributes)}{content}</{name}>"
 
 
-def opened(name: str, attributes: Mapping[str, Attribute]) -> Part:
+def opened(name: str, attributes: Mapping[str, str]) -> Part:
     return "<" + name + "".join(f' {key}="{text(value)}"' for key, value in attributes.items()) + ">"
 
 

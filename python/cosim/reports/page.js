@@ -58,17 +58,18 @@
     return lines.map(escaped).join("<br>");
   }
 
-  // The points of a column, without those of absent events.
+  // The points of a column, without those of absent events and of what is no number.
   const known = new Map();
   function pointsOf(trace, place) {
     const key = `${traces.indexOf(trace)} ${place}`;
     if (!known.has(key)) {
       const rows = [], x = [], y = [];
       trace.fields(place + 2).forEach((field, row) => {
-        if (field === "") return;
+        const number = numberOf(data.columns[place], field);
+        if (field === "" || Number.isNaN(number)) return;
         rows.push(row);
         x.push(trace.times[row]);
-        y.push(numberOf(data.columns[place], field));
+        y.push(number);
       });
       known.set(key, { rows, x, y, isSorted: x.every((time, number) => !number || x[number - 1] <= time) });
     }
@@ -173,7 +174,7 @@
 
   async function draw(place, figure) {
     if (drawn.has(place)) return;
-    const area = figure.querySelector(".plot");
+    const area = figure.querySelector(".drawing");
     drawn.set(place, area);
     const parts = traces.map((trace, number) => drawingOf(trace, number, place));
     if (traces.length > 1) parts.push(differencesOf(place));
@@ -208,7 +209,7 @@
     const column = data.columns[place];
     const figure = make("figure", parent, "", { id: `plot-${place}` });
     make("span", make("figcaption", figure, column.name + " "), (column.event ? "event " : "") + column.type);
-    const area = make("div", figure, "", { class: "plot", role: "img", "aria-label": `plot of ${column.name}; the table of rows has its values` });
+    const area = make("div", figure, "", { class: "drawing", role: "img", "aria-label": `plot of ${column.name}; the table of rows has its values` });
     if (traces.length > 1) area.style.height = "215px";
     return figure;
   }

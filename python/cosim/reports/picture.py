@@ -145,7 +145,7 @@ def back_way(start: Tuple[float, float], right: float, lane: float, left: float,
 
 
 def box_element(box: Box) -> Part:
-    frame = {"x": number(box.x), "y": number(box.y), "width": number(box.width), "height": number(box.height), "rx": 4}
+    frame = {"x": number(box.x), "y": number(box.y), "width": number(box.width), "height": number(box.height), "rx": "4"}
     middle = number(box.x + box.width / 2)
     parts = [
         element("rect", "", frame),

@@ -121,8 +121,8 @@ def run_section(system: System) -> Part:
     """The numbers of a run."""
     pairs = [(what, system.numbers.get(word, missing)) for word, what, missing in NUMBERS]
     tick = "a second" if system.resolution == 0 else f"10^-{system.resolution} seconds"
-    parts = ((system.units, "unit"), (system.instances, "component"), (system.connections, "connection"))
-    counts = ", ".join(f"{len(found)} {word}{'' if len(found) == 1 else 's'}" for found, word in parts)
+    parts = ((len(system.units), "unit"), (len(system.instances), "component"), (len(system.connections), "connection"))
+    counts = ", ".join(f"{count} {word}{'' if count == 1 else 's'}" for count, word in parts)
     return section("model", "Model", facts([("parts", counts), ("tick of the system", tick), *pairs]))
 
 
