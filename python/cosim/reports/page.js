@@ -5,8 +5,8 @@
 (() => {
   const data = JSON.parse(document.getElementById("data").textContent);
   // The rows and columns that a table shows at once, the points of one time that are listed under the cursor, and into how
-  // many parts the points in view are divided where a plot draws not all of them.
-  const ROWS = 100, COLUMNS = 40, LISTED = 12, PARTS = 1000, MOST_DRAWN = 4 * PARTS;
+  // many parts the points in view are divided where a plot draws not all of them. PAPER is the width of a plot on paper.
+  const ROWS = 100, COLUMNS = 40, LISTED = 12, PARTS = 1000, MOST_DRAWN = 4 * PARTS, PAPER = 680;
   const COLORS = ["#1f5fa8", "#c2571a"], DIFFERS = "#b00020", QUIET = "#8b949e";
   const count = number => number.toLocaleString("en-US");
 
@@ -51,9 +51,8 @@
     if (trace.next[row] - trace.first[row] === 1) return escaped(`${head}, index ${indices[row]}: ${fields[row]}`);
     const from = Math.max(trace.first[row], Math.min(row - LISTED / 2, trace.next[row] - LISTED));
     const lines = [head];
-    for (let other = from; other < Math.min(trace.next[row], from + LISTED); other++) {
-      lines.push(`index ${indices[other]}: ${fields[other] || "absent"}`);
-    }
+    const to = Math.min(trace.next[row], from + LISTED);
+    for (let other = from; other < to; other++) lines.push(`index ${indices[other]}: ${fields[other] || "absent"}`);
     if (trace.next[row] - trace.first[row] > LISTED) lines.push(`of ${trace.next[row] - trace.first[row]} points`);
     return lines.map(escaped).join("<br>");
   }
@@ -119,8 +118,8 @@
     if (column.event) {
       return { ...drawing, mode: "markers", cliponaxis: false, marker: { color, size: 9 - 2 * number, symbol: number ? "diamond" : "circle" } };
     }
-    const band = column.type === "Bool" ? { fill: "tozeroy", fillcolor: color + "40" } : {};
-    return { ...drawing, mode: "lines", line: { shape: "hv", color, width: 1.6, dash: number ? "dash" : "solid" }, ...band };
+    const line = { shape: "hv", color, width: 1.6, dash: number ? "dash" : "solid" };
+    return { ...drawing, mode: "lines", line, ...(column.type === "Bool" ? { fill: "tozeroy", fillcolor: color + "40" } : {}) };
   }
 
   // Marks the points at which the two traces differ.
@@ -163,7 +162,7 @@
     const truth = { range: [-0.15, 1.15], tickvals: [0, 1], ticktext: ["false", "true"], fixedrange: true };
     const heights = column.type === "Bool" ? truth : { range: heightsOf(place) };
     return {
-      height: 190, margin: { l: 80, r: 16, t: 30, b: 36 }, separators: ".", hovermode: "x", hoverdistance: -1, dragmode: "zoom", shapes,
+      height: traces.length > 1 ? 215 : 190, margin: { l: 80, r: 16, t: traces.length > 1 ? 50 : 30, b: 36 }, separators: ".", hovermode: "x", hoverdistance: -1, dragmode: "zoom", shapes,
       font: { family: "system-ui, 'Liberation Sans', 'DejaVu Sans', sans-serif", size: 12, color: "#1b1f23" },
       hoverlabel: { align: "left", font: { family: "'DejaVu Sans Mono', Menlo, Consolas, monospace", size: 12 }, namelength: -1 },
       legend: { orientation: "h", y: 1.02, yanchor: "bottom", x: 0 },
@@ -178,11 +177,9 @@
     drawn.set(place, area);
     const parts = traces.map((trace, number) => drawingOf(trace, number, place));
     if (traces.length > 1) parts.push(differencesOf(place));
-    const layout = layoutOf(place);
-    if (traces.length > 1) layout.height = area.clientHeight;
     const buttons = ["select2d", "lasso2d", "autoScale2d", "toggleSpikelines", "hoverClosestCartesian", "hoverCompareCartesian"];
     const config = { responsive: true, displaylogo: false, doubleClick: "reset", modeBarButtonsToRemove: buttons };
-    await Plotly.newPlot(area, parts, layout, config);
+    await Plotly.newPlot(area, parts, layoutOf(place), config);
     if (range !== whole) await showIn(area, place);
     area.on("plotly_relayout", () => { if (!busy) show(area.layout.xaxis.range.map(Number)); });
   }
@@ -209,8 +206,7 @@
     const column = data.columns[place];
     const figure = make("figure", parent, "", { id: `plot-${place}` });
     make("span", make("figcaption", figure, column.name + " "), (column.event ? "event " : "") + column.type);
-    const area = make("div", figure, "", { class: "drawing", role: "img", "aria-label": `plot of ${column.name}; the table of rows has its values` });
-    if (traces.length > 1) area.style.height = "215px";
+    make("div", figure, "", { class: "drawing", role: "img", "aria-label": `plot of ${column.name}; the table of rows has its values` });
     return figure;
   }
 
@@ -239,7 +235,7 @@
     const bar = make("form", parent, "", { class: "bar controls" });
     const input = make("input", make("label", bar, "draw the column "), "", { list: "columns" });
     const list = make("datalist", bar, "", { id: "columns" });
-    data.columns.forEach(column => make("option", list, "", { value: column.name }));
+    for (const column of data.columns) make("option", list, "", { value: column.name });
     make("button", bar, "Draw", { type: "submit" });
     const says = make("span", bar, "", { class: "quiet", role: "status" });
     bar.addEventListener("submit", event => {
@@ -254,10 +250,8 @@
 
   function addPlots() {
     const parent = document.getElementById("plots");
-    if (!data.columns.length || !traces.some(trace => trace.rows)) {
-      make("p", parent, "There is nothing to draw.");
-      return;
-    }
+    const isEmpty = !data.columns.length || !traces.some(trace => trace.rows);
+    if (isEmpty) return make("p", parent, "There is nothing to draw.");
     make("p", parent, "Drag the mouse over a plot to zoom into it; a double click shows all again. Values are exact under the cursor and in the table; each line is drawn by the nearest floats.");
     if (hasMany) make("p", parent, `Of more than ${count(MOST_DRAWN)} points in view a plot draws the first, the least, the greatest and the last one in each of ${count(PARTS)} parts. Zoom in to see each point.`);
     if (shapes.length) make("p", parent, "A dotted line is at each time with several points.");
@@ -268,11 +262,16 @@
       addChoice(parent, figures);
     }
     parent.append(figures);
-    const watch = new IntersectionObserver(entries => {
-      for (const entry of entries) if (entry.isIntersecting) draw(Number(entry.target.id.slice(5)), entry.target);
-    }, { rootMargin: "400px" });
+    const enter = ({ isIntersecting, target }) => { if (isIntersecting) draw(Number(target.id.slice(5)), target); };
+    const watch = new IntersectionObserver(entries => entries.forEach(enter), { rootMargin: "400px" });
     for (const place of data.drawn) watch.observe(addFigure(place, figures));
-    window.addEventListener("beforeprint", () => { for (const place of data.drawn) draw(place, document.getElementById(`plot-${place}`)); });
+    // A sheet of paper has all plots, by its own width.
+    const setWidth = layout => { for (const area of drawn.values()) if (area.layout) Plotly.relayout(area, layout); };
+    window.addEventListener("beforeprint", () => {
+      for (const place of data.drawn) draw(place, document.getElementById(`plot-${place}`));
+      setWidth({ autosize: false, width: PAPER });
+    });
+    window.addEventListener("afterprint", () => setWidth({ autosize: true, width: null }));
   }
 
   // Tables, a part of whose rows and columns is shown.
@@ -318,9 +317,8 @@
     };
     if (total > ROWS) pager(make("div", bars, "", { class: "bar" }), "rows", ROWS, total, (from, to) => { rows = [from, to]; write(); });
     const others = headings.length - fixed;
-    if (others > COLUMNS) {
-      pager(make("div", bars, "", { class: "bar" }), "columns", COLUMNS, others, (from, to) => { columns = [fixed + from, fixed + to]; write(); });
-    }
+    const turn = (from, to) => { columns = [fixed + from, fixed + to]; write(); };
+    if (others > COLUMNS) pager(make("div", bars, "", { class: "bar" }), "columns", COLUMNS, others, turn);
     write();
   }
 

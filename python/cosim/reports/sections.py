@@ -4,7 +4,7 @@ from typing import Iterable, Iterator, List, Sequence, Tuple
 from ..canonical import Instance, Port, System, Unit
 from ..errors import title_of_fault
 from ..models import Model
-from ..outcomes import Outcome
+from ..outcomes import STOPPED, UNKNOWN, Outcome
 from ..traces import Trace
 from .markup import Part, details, element, facts, lines, section, table, text
 from .picture import picture
@@ -19,12 +19,15 @@ NUMBERS = (
     ("rows", "row budget, in rows", "not given"),
 )
 
+# What is said beside an outcome that isn't that of a whole run.
+REASONS = {STOPPED: ": the rows were read no further", UNKNOWN: ": the rows are those of a file"}
+
 NO_COMPONENT = "The model has no component."
 
 
 def outcome_facts(outcome: Outcome, trace: Trace) -> List[Tuple[str, str]]:
     """How a run ended, and where."""
-    pairs = [("kind", outcome.kind), ("rows", f"{len(trace):,}")]
+    pairs = [("kind", outcome.kind + REASONS.get(outcome.kind, "")), ("rows", f"{len(trace):,}")]
     if trace.records:
         pairs.append(("last row", f"time {trace.records[-1][0]} seconds, index {trace.records[-1][1]}"))
     if outcome.note:
