@@ -213,24 +213,28 @@ def tolerance_of(given: Given, what: str) -> Fraction:
 
 def differences(mine: Trace, other: Trace, allowed: Mapping[str, Fraction]) -> Iterator[Difference]:
     """The differences at each point of either trace."""
-    rows, others = places_of(mine), places_of(other)
-    for time, index in sorted(rows.keys() | others.keys()):
-        row, other_row = rows.get((time, index)), others.get((time, index))
+    resolution = max(mine.resolution, other.resolution)
+    rows, others = places_of(mine, resolution), places_of(other, resolution)
+    columns = [(name, mine[name], other[name], tolerance) for name, tolerance in allowed.items()]
+    for ticks, index in sorted(rows.keys() | others.keys()):
+        row, other_row = rows.get((ticks, index)), others.get((ticks, index))
+        time = Fraction(ticks, 10**resolution)
         if row is None or other_row is None:
             yield Difference(time, index, TIME, None if row is None else time, None if other_row is None else time)
             continue
-        for name, tolerance in allowed.items():
-            value, other_value = mine[name][row], other[name][other_row]
+        for name, values, other_values, tolerance in columns:
+            value, other_value = values[row], other_values[other_row]
             if is_apart(value, other_value, tolerance):
                 yield Difference(time, index, name, value, other_value)
 
 
-def places_of(trace: Trace) -> Dict[Tuple[Fraction, int], int]:
-    """The number of the row of each point."""
-    return {point: number for number, point in enumerate(zip(trace.time, trace.index))}
+def places_of(trace: Trace, resolution: int) -> Dict[Point, int]:
+    """The number of the row of each point, whose time is in 10^-resolution seconds."""
+    scale = 10 ** (resolution - trace.resolution)
+    return {(ticks * scale, index): number for number, (ticks, index) in enumerate(trace.points)}
 
 
 def is_apart(value: Optional[Value], other: Optional[Value], tolerance: Fraction) -> bool:
     if value is None or other is None or isinstance(value, bool) or isinstance(other, bool):
         return value is not other
-    return abs(Fraction(value) - Fraction(other)) > tolerance
+    return value != other and abs(Fraction(value) - Fraction(other)) > tolerance

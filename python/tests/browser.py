@@ -111,14 +111,16 @@ class Browser:
         width = self.run("return arguments[0].getBoundingClientRect().width", drag)
         return self.mouse().move_to_element_with_offset(drag, round(left - width / 2), 0)
 
-    def hover(self, area: Any, seconds: float) -> List[str]:
-        """The texts that are shown where the mouse is over a plot at a time."""
-        self.move_to(area, seconds - 0.001).perform()
-        self.wait(lambda: self.run("return arguments[0].querySelectorAll('.hovertext').length", area))
-        self.move_to(area, seconds).perform()
-        time.sleep(0.1)
-        lines = "return [...arguments[0].querySelectorAll('.hovertext text.nums')].map(each => each.textContent)"
-        return list(self.run(lines, area))
+    def require_hover(self, area: Any, seconds: float, wanted: List[str]) -> None:
+        """Fails where other texts are shown when the mouse is over a plot at a time."""
+        lines = "return [...arguments[0].querySelectorAll('.hovertext text.nums')].map(each => each.textContent).sort()"
+        end = time.monotonic() + PATIENCE
+        shown: List[str] = []
+        while shown != sorted(wanted) and time.monotonic() < end:
+            self.move_to(area, seconds).perform()
+            time.sleep(0.1)
+            shown = self.run(lines, area)
+        assert shown == sorted(wanted)
 
     def table(self, selector: str) -> List[List[str]]:
         """The cells of a table's body as it is shown."""

@@ -6,6 +6,8 @@ from typing import Iterator
 import pytest
 
 import cosim
+
+pytest.register_assert_rewrite("browser")
 from browser import Browser
 
 REPOSITORY = pathlib.Path(__file__).resolve().parents[2]

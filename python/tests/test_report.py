@@ -58,8 +58,10 @@ def test_the_page_has_the_fields_of_the_trace() -> None:
 @needs_plotly
 def test_the_elements_of_a_page(groups: cosim.Model) -> None:
     reader = Reader()
-    reader.feed(cosim.report(groups).decode())
+    page = cosim.report(groups).decode()
+    reader.feed(page)
     assert reader.open == []
+    assert '<th scope="row">power_battery</th><td>power.battery</td><td>Battery</td>' in page
 
 
 @needs_plotly
@@ -256,6 +258,17 @@ def test_the_command_with_mistakes(examples: pathlib.Path, tmp_path: pathlib.Pat
     assert (called.returncode, called.stdout) == (status, ""), called
     assert called.stderr.startswith(begins.format(**names)) and called.stderr and "Traceback" not in called.stderr, called
     assert os.listdir(tmp_path) == []
+
+
+@needs_plotly
+def test_a_locale_without_letters(examples: pathlib.Path, tmp_path: pathlib.Path) -> None:
+    """plotly.js has letters that ASCII hasn't."""
+    page = tmp_path / "page.html"
+    locale = {"LC_ALL": "POSIX", "PYTHONCOERCECLOCALE": "0", "PYTHONUTF8": "0", "PYTHONPATH": os.path.dirname(os.path.dirname(cosim.__file__))}
+    words = [sys.executable, "-m", "cosim", "report", str(examples / "heater.cosim"), "-o", str(page)]
+    called = subprocess.run(words, env={"COSIM": os.environ["COSIM"], **locale}, capture_output=True, text=True, check=False)
+    assert (called.returncode, called.stderr) == (0, "")
+    assert page.read_bytes() == cosim.report(cosim.Model.read(examples / "heater.cosim"), labels=(str(examples / "heater.cosim"), ""))
 
 
 def test_without_plotly(examples: pathlib.Path, tmp_path: pathlib.Path) -> None:

@@ -83,6 +83,8 @@ def test_a_zoom_changes_the_axis_of_all_plots(browser: Browser, heater: cosim.Mo
         field.send_keys(text)
     fields[1].send_keys("\n")
     browser.wait(lambda: browser.span(area) == browser.span(other) == (60, 120))
+    browser.move_to(browser.plot("plate.degrees"), 100).double_click().perform()
+    browser.wait(lambda: browser.span(area) == browser.span(other) == (0, 1800))
     fields[1].send_keys("x\n")
     browser.wait(lambda: "Write two numbers" in "".join(browser.texts("#plots [role=status]")))
     browser.require_quiet(page)
@@ -92,16 +94,16 @@ def test_values_under_the_cursor_are_exact(browser: Browser, tmp_path: pathlib.P
     text = COOLER.replace("Fixed 2", "Int64").replace("1.00", "9007199254740991").replace("0.25", "-1").replace("0.60", "0")
     browser.open(write(tmp_path / "page.html", cosim.Model.from_text(text)))
     area = browser.plot("cooler.degrees_now")
-    assert browser.hover(area, 20) == ["time 20, index 0: 9007199254740993"]
-    assert browser.hover(area, 9) == ["time 10, index 0: 9007199254740992"]
-    assert browser.hover(browser.plot("cooler.cold"), 20) == ["time 20, index 0: false"]
+    browser.require_hover(area, 20, ["time 20, index 0: 9007199254740993"])
+    browser.require_hover(area, 9, ["time 10, index 0: 9007199254740992"])
+    browser.require_hover(browser.plot("cooler.cold"), 20, ["time 20, index 0: false"])
 
 
 def test_points_of_one_time_are_kept_apart(browser: Browser, tmp_path: pathlib.Path) -> None:
     page = write(tmp_path / "page.html", cosim.Model.from_text(STUCK))
     browser.open(page)
     area = browser.plot("timer.seconds")
-    assert browser.hover(area, 3) == ["time 3index 0: 0index 1: 0index 2: 0"]
+    browser.require_hover(area, 3, ["time 3index 0: 0index 1: 0index 2: 0"])
     assert len(browser.all(".shapelayer path")) == 1
     assert "cosim: zero budget at 3,2" in browser.texts("#outcome dd")
     browser.require_quiet(page)
@@ -111,7 +113,7 @@ def test_events_are_marks(browser: Browser, tmp_path: pathlib.Path) -> None:
     browser.open(write(tmp_path / "page.html", cosim.Model.from_text(EVENTS)))
     area = browser.plot("source.square")
     assert browser.run("return [arguments[0].data[0].x, arguments[0].data[0].y, arguments[0].data[0].mode]", area) == [[1, 3], [1, 9], "markers"]
-    assert browser.hover(area, 3) == ["time 3, index 0: 9"]
+    browser.require_hover(area, 3, ["time 3, index 0: 9"])
     assert browser.table("#rows")[0] == ["0", "0", "true", "", ""]
 
 
@@ -137,7 +139,7 @@ def test_pages_of_rows_and_columns(browser: Browser, tmp_path: pathlib.Path) -> 
     browser.wait(lambda: browser.table("#rows")[0][0] == "100")
     field = browser.all("#plots input")[2]
     field.send_keys("a.y1\n")
-    assert browser.hover(browser.plot("a.y1"), 249) == ["time 249, index 0: 9007199254741242"]
+    browser.require_hover(browser.plot("a.y1"), 249, ["time 249, index 0: 9007199254741242"])
     browser.require_quiet(page)
 
 
@@ -169,11 +171,8 @@ def test_differences_are_listed(browser: Browser, heater: cosim.Model, tmp_path:
     assert browser.texts("#differences thead th")[3:] == ["calm", "windy"]
     assert f"calm and windy have {len(found)} differences" in browser.texts("#differences p")[0]
     area = browser.plot("battery.energy")
-    assert sorted(browser.hover(area, 1800)) == [
-        "calm, time 1800, index 0: 47.0000",
-        "differs: 47.0000 and 46.6000",
-        "windy, time 1800, index 0: 46.6000",
-    ]
+    mine, his = "calm, time 1800, index 0: 47.0000", "windy, time 1800, index 0: 46.6000"
+    browser.require_hover(area, 1800, [mine, his, "differs: 47.0000 and 46.6000"])
     assert browser.texts("#rows h3") == ["calm", "windy"]
     browser.require_quiet(page)
 
@@ -189,7 +188,8 @@ def test_points_of_one_trace_alone_and_names_of_traces(browser: Browser, tmp_pat
         ["15", "0", "time", "no row", "15"],
         ["20", "0", "time", "20", "no row"],
     ]
-    assert ATTACKS[3] in browser.hover(browser.plot("cooler.cold"), 20)[0]
+    at_20, at_15 = f"{ATTACKS[3]}, time 20, index 0: true", f"{ATTACKS[6]}, time 15, index 0: false"
+    browser.require_hover(browser.plot("cooler.cold"), 20, [at_20, at_15])
     assert ATTACKS[3] in browser.texts("#outcome h3") and ATTACKS[3] in browser.texts(".legendtext")
     assert not browser.run(HACKED) and not browser.all("#plots a[href*=hacked]")
     browser.require_quiet(page)
@@ -233,6 +233,20 @@ def test_names_and_values_of_a_trace_do_nothing(browser: Browser, tmp_path: path
     assert trace.names == browser.texts("#rows thead th")[2:] and f"{trace.names[0]} Int64" in browser.texts("figcaption")
     assert not browser.run(HACKED) and not browser.all("#plots a[href*=hacked]")
     assert len(browser.all("script")) == 3
+    browser.require_quiet(page)
+
+
+def test_a_sheet_of_paper_has_all_plots(browser: Browser, tmp_path: pathlib.Path) -> None:
+    model = cosim.Model.from_text(WIDE)
+    page = tmp_path / "page.html"
+    cosim.report(model, names=model.run().names[:12], path=str(page))
+    browser.open(page)
+    widths = "return [...document.querySelectorAll('.drawing')].map(each => each.layout && each.layout.width)"
+    assert None in browser.run(widths)
+    browser.run("window.dispatchEvent(new Event('beforeprint'))")
+    browser.wait(lambda: browser.run(widths) == [680] * 12)
+    browser.run("window.dispatchEvent(new Event('afterprint'))")
+    browser.wait(lambda: 680 not in browser.run(widths))
     browser.require_quiet(page)
 
 

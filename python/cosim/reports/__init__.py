@@ -2,6 +2,7 @@
 from typing import Mapping, Optional, Sequence, Tuple, Union
 
 from ..errors import UnfitValue
+from ..files import write_at_once
 from ..models import Model
 from ..traces import Trace
 from ..values import Given
@@ -18,7 +19,8 @@ def report(
     path: Optional[str] = None,
     labels: Tuple[str, str] = LABELS,
 ) -> bytes:
-    """The page of a model and its trace, as bytes of HTML, which are written to a file too where one is named.
+    """The page of a model and its trace, as bytes of HTML, which are written to a file too, whole or not at all, where one is
+    named.
 
     Without `trace` the model is run. `names` are the columns that the page draws at first: without them all, up to 64. Where
     `other` is given the page lists what `trace.diff(other, tolerance)` lists, and calls the two traces by `labels`.
@@ -32,6 +34,5 @@ def report(
         raise UnfitValue(f"names: {names!r} is one name; write [{names!r}]")
     page = page_of(model, model.run() if trace is None else trace, other, tolerance, names, labels)
     if path is not None:
-        with open(path, "wb") as file:
-            file.write(page)
+        write_at_once(path, lambda file: file.write(page))
     return page

@@ -206,7 +206,7 @@
     const column = data.columns[place];
     const figure = make("figure", parent, "", { id: `plot-${place}` });
     make("span", make("figcaption", figure, column.name + " "), (column.event ? "event " : "") + column.type);
-    make("div", figure, "", { class: "drawing", role: "img", "aria-label": `plot of ${column.name}; the table of rows has its values` });
+    make("div", figure, "", { class: traces.length > 1 ? "drawing of-two" : "drawing", role: "img", "aria-label": `plot of ${column.name}; the table of rows has its values` });
     return figure;
   }
 

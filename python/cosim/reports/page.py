@@ -2,7 +2,8 @@
 import os
 from typing import List, Mapping, Optional, Sequence, Tuple, Union
 
-from plotly.offline import get_plotlyjs, get_plotlyjs_version
+import plotly
+from plotly.offline import get_plotlyjs_version
 
 from ..models import Model
 from ..streams import clean_name
@@ -15,6 +16,9 @@ from .sections import (
 from .tables import MOST_DIFFERENCES, data_of_page, tolerance_words
 
 HERE = os.path.dirname(os.path.abspath(__file__))
+
+# Where the package plotly has plotly.js: its own place, and that of Debian.
+PLACES = (os.path.join(os.path.dirname(plotly.__file__), "package_data", "plotly.min.js"), "/usr/share/python3-plotly/plotly.js")
 
 NO_SCRIPT = "The plots and the tables of rows require JavaScript, which this browser doesn't run."
 
@@ -73,14 +77,22 @@ def differences_section(found: Sequence[Difference], tolerance: Union[Given, Map
     return section("differences", "Differences", element("p", text(says)))
 
 
-def read_part(name: str) -> str:
-    with open(os.path.join(HERE, name), encoding="utf-8") as file:
+def read_part(path: str) -> str:
+    with open(os.path.join(HERE, path), encoding="utf-8") as file:
         return file.read()
+
+
+def read_plotly() -> str:
+    """The text of plotly.js. plotly's own function for it reads it by the encoding of the locale, where Debian packed it."""
+    found = [place for place in PLACES if os.path.exists(place)]
+    if not found:
+        raise ImportError("the package plotly has no plotly.js", name="plotly.js")
+    return read_part(found[0])
 
 
 def document(title: str, body: List[Part]) -> bytes:
     """The whole document. Its policy lets run the two scripts by their hashes alone, and nothing comes from elsewhere."""
-    scripts = [script_of(written) for written in (get_plotlyjs(), read_part("page.js"))]
+    scripts = [script_of(written) for written in (read_plotly(), read_part("page.js"))]
     policy = "; ".join(
         [
             "default-src 'none'",
