@@ -19,10 +19,13 @@ ATTACKS = (
     "<img src=x onerror=window.hacked=1>",
     "</pre></details></title></style></textarea><svg onload=window.hacked=1>",
     "\" onmouseover=window.hacked=1 autofocus onfocus=window.hacked=1 x=\"",
-    "<a href=javascript:window.hacked=1>a</a>",
+    '<a href="javascript:window.hacked=1">a</a><b>b</b>',
     "'-window.hacked-'\\u2028\u2028window.hacked=1",
 )
 HACKED = "return window.hacked !== undefined || document.querySelectorAll('img, iframe, object, [onerror], [onload]').length"
+
+# How many links there are in plots, but for plotly's own buttons.
+LINKS = "return document.querySelectorAll('figcaption a, .drawing svg a, #rows a, #differences a').length"
 
 WIDE = "cosim 1\nunit A\nstate n : Int64 = 0\nparam big : Int64 = 9007199254740993\n{}step\nn := n + 1\nend\nend\n{}stop 249\nlongest 1\n".format(
     "".join(f"output y{number} : Int64 = big + n * {number}\n" for number in range(25)), "instance a : A\nend\ninstance b : A\nend\n"
@@ -190,8 +193,9 @@ def test_points_of_one_trace_alone_and_names_of_traces(browser: Browser, tmp_pat
     ]
     at_20, at_15 = f"{ATTACKS[3]}, time 20, index 0: true", f"{ATTACKS[6]}, time 15, index 0: false"
     browser.require_hover(browser.plot("cooler.cold"), 20, [at_20, at_15])
-    assert ATTACKS[3] in browser.texts("#outcome h3") and ATTACKS[3] in browser.texts(".legendtext")
-    assert not browser.run(HACKED) and not browser.all("#plots a[href*=hacked]")
+    assert browser.texts("#outcome h3") == [ATTACKS[3], ATTACKS[6]]
+    assert {ATTACKS[3], ATTACKS[6]} <= set(browser.texts(".legendtext"))
+    assert not browser.run(HACKED) and browser.run(LINKS) == 0
     browser.require_quiet(page)
 
 
@@ -231,7 +235,7 @@ def test_names_and_values_of_a_trace_do_nothing(browser: Browser, tmp_path: path
     assert ATTACKS[3] in browser.texts("#outcome dd") and f"rate = {ATTACKS[3]}" in browser.texts("#components b")
     assert plain[:4] == browser.table("#rows")[0][2:6]
     assert trace.names == browser.texts("#rows thead th")[2:] and f"{trace.names[0]} Int64" in browser.texts("figcaption")
-    assert not browser.run(HACKED) and not browser.all("#plots a[href*=hacked]")
+    assert not browser.run(HACKED) and browser.run(LINKS) == 0
     assert len(browser.all("script")) == 3
     browser.require_quiet(page)
 
