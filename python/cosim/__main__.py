@@ -17,7 +17,7 @@ status of the first that ended early. A difference changes no status.
 import argparse
 import os
 import sys
-from typing import Any, Callable, Dict, List, NamedTuple, Optional, Sequence, Union
+from typing import Any, Callable, Dict, List, NamedTuple, Optional, Sequence, Tuple, Union
 
 from .errors import CosimError, UnfitValue, UnknownName
 from .files import write_at_once
@@ -87,9 +87,15 @@ def make_report(given: argparse.Namespace) -> Made:
     model = Model.read(given.model)
     trace = model.run(until=given.until) if given.trace is None else read_rows(model, given.trace, given.until)
     other = None if given.against is None else read_other(model, given.against, given.until)
-    labels = (given.trace or given.model, given.against or "")
+    labels = labels_of(given.trace or given.model, given.against or "")
     page = report(model, trace, other, tolerance_of(given.tolerance or []), given.columns, labels=labels)
     return Made(lambda file: file.write(page), [each.outcome for each in (trace, other) if each is not None])
+
+
+def labels_of(mine: str, other: str) -> Tuple[str, str]:
+    """What a page calls two traces: the names of their files, with the folders where the names are the same."""
+    names = os.path.basename(mine), os.path.basename(other)
+    return names if names[0] != names[1] else (mine, other)
 
 
 def read_rows(model: Model, path: str, until: Optional[str]) -> Trace:

@@ -12,6 +12,7 @@ from typing import Any, Dict, List, Tuple
 import pytest
 
 import cosim
+from cosim.__main__ import labels_of
 from cosim.canonical import read_system
 from cosim.reports.layers import forward_edges, layer_numbers, layout_of
 from cosim.reports.markup import data_of, hash_of, script_of, text
@@ -200,7 +201,12 @@ def test_the_command_compares(examples: pathlib.Path, tmp_path: pathlib.Path) ->
         assert (called.returncode, called.stderr) == (0, ""), called
         data = data_in(page.read_bytes())
         assert len(data["differences"]) == count and [each["rows"] for each in data["traces"]] == [number_of_rows] * 2
-        assert data["traces"][1]["label"] == words[0]
+        assert data["traces"][1]["label"] == os.path.basename(words[0]) or "--trace" in words
+
+
+def test_names_of_traces() -> None:
+    assert labels_of("a/x.cosim", "b/y.csv") == ("x.cosim", "y.csv")
+    assert labels_of("a/x.csv", "b/x.csv") == ("a/x.csv", "b/x.csv")
 
 
 @needs_plotly
@@ -268,7 +274,7 @@ def test_a_locale_without_letters(examples: pathlib.Path, tmp_path: pathlib.Path
     words = [sys.executable, "-m", "cosim", "report", str(examples / "heater.cosim"), "-o", str(page)]
     called = subprocess.run(words, env={"COSIM": os.environ["COSIM"], **locale}, capture_output=True, text=True, check=False)
     assert (called.returncode, called.stderr) == (0, "")
-    assert page.read_bytes() == cosim.report(cosim.Model.read(examples / "heater.cosim"), labels=(str(examples / "heater.cosim"), ""))
+    assert page.read_bytes() == cosim.report(cosim.Model.read(examples / "heater.cosim"), labels=("heater.cosim", ""))
 
 
 def test_without_plotly(examples: pathlib.Path, tmp_path: pathlib.Path) -> None:

@@ -174,8 +174,8 @@ def test_differences_are_listed(browser: Browser, heater: cosim.Model, tmp_path:
     assert browser.texts("#differences thead th")[3:] == ["calm", "windy"]
     assert f"calm and windy have {len(found)} differences" in browser.texts("#differences p")[0]
     area = browser.plot("battery.energy")
-    mine, his = "calm, time 1800, index 0: 47.0000", "windy, time 1800, index 0: 46.6000"
-    browser.require_hover(area, 1800, [mine, his, "differs: 47.0000 and 46.6000"])
+    calm, windy = "calm, time 1800, index 0: 47.0000", "windy, time 1800, index 0: 46.6000"
+    browser.require_hover(area, 1800, [calm, windy, "differs: 47.0000 and 46.6000"])
     assert browser.texts("#rows h3") == ["calm", "windy"]
     browser.require_quiet(page)
 
@@ -199,7 +199,7 @@ def test_points_of_one_trace_alone_and_names_of_traces(browser: Browser, tmp_pat
     browser.require_quiet(page)
 
 
-def test_texts_do_nothing_but_stand_there(browser: Browser, tmp_path: pathlib.Path) -> None:
+def test_comments_and_names_of_files_do_nothing(browser: Browser, tmp_path: pathlib.Path) -> None:
     folder = tmp_path / "<"
     folder.mkdir()
     file = folder / "script><img src=x onerror=window.hacked=1><script>window.hacked=1.cosim"
