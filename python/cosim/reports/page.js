@@ -9,7 +9,6 @@
   const ROWS = 100, COLUMNS = 40, LISTED = 12, PARTS = 1000, MOST_DRAWN = 4 * PARTS, PAPER = 680;
   const COLORS = ["#1f5fa8", "#c2571a"], DIFFERS = "#b00020", QUIET = "#8b949e";
   const count = number => number.toLocaleString("en-US");
-
   function make(name, parent, text, attributes) {
     const made = document.createElement(name);
     if (text) made.textContent = text;
@@ -253,7 +252,8 @@
     const isEmpty = !data.columns.length || !traces.some(trace => trace.rows);
     if (isEmpty) return make("p", parent, "There is nothing to draw.");
     make("p", parent, "Drag the mouse over a plot to zoom into it; a double click shows all again. Values are exact under the cursor and in the table; each line is drawn by the nearest floats.");
-    if (hasMany) make("p", parent, `Of more than ${count(MOST_DRAWN)} points in view a plot draws the first, the least, the greatest and the last one in each of ${count(PARTS)} parts. Zoom in to see each point.`);
+    const many = `Of more than ${count(MOST_DRAWN)} points in view a plot draws the first, the least, the greatest and the last one`;
+    if (hasMany) make("p", parent, `${many} in each of ${count(PARTS)} parts. Zoom in to see each point.`);
     if (shapes.length) make("p", parent, "A dotted line is at each time with several points.");
     addControls(parent);
     const figures = make("div", null);
@@ -327,8 +327,8 @@
     for (const trace of traces) {
       const part = traces.length > 1 ? make("div", parent) : parent;
       if (traces.length > 1) make("h3", part, trace.label);
-      const left = trace.all - trace.rows;
-      make("p", part, `${count(trace.all)} rows.` + (left ? ` The first ${count(trace.rows)} are in this page, which would be too large with all.` : "") + " A field is empty where an event is absent.");
+      const cut = trace.all > trace.rows ? ` The first ${count(trace.rows)} are in this page, which would be too large with all.` : "";
+      make("p", part, `${count(trace.all)} rows.${cut} A field is empty where an event is absent.`);
       if (trace.rows) addTable(part, headings, trace.rows, (row, place) => trace.fields(place)[row], 2);
     }
   }
