@@ -17,7 +17,7 @@ from cosim.canonical import read_system
 from cosim.reports.layers import forward_edges, layer_numbers, layout_of
 from cosim.reports.markup import data_of, hash_of, script_of, text
 from cosim.reports.picture import picture
-from test_plots import call
+from commands import call
 from texts import COOLER, DIVIDES, EVENTS, HALVES, REFUSES
 
 needs_plotly = pytest.mark.skipif(importlib.util.find_spec("plotly") is None, reason="there is no plotly")
@@ -270,7 +270,8 @@ def test_the_command_with_mistakes(examples: pathlib.Path, tmp_path: pathlib.Pat
 def test_a_locale_without_letters(examples: pathlib.Path, tmp_path: pathlib.Path) -> None:
     """plotly.js has letters that ASCII hasn't."""
     page = tmp_path / "page.html"
-    locale = {"LC_ALL": "POSIX", "PYTHONCOERCECLOCALE": "0", "PYTHONUTF8": "0", "PYTHONPATH": os.path.dirname(os.path.dirname(cosim.__file__))}
+    path = os.pathsep.join([os.path.dirname(os.path.dirname(cosim.__file__)), os.environ.get("PYTHONPATH", "")])
+    locale = {"LC_ALL": "POSIX", "PYTHONCOERCECLOCALE": "0", "PYTHONUTF8": "0", "PYTHONPATH": path}
     words = [sys.executable, "-m", "cosim", "report", str(examples / "heater.cosim"), "-o", str(page)]
     called = subprocess.run(words, env={"COSIM": os.environ["COSIM"], **locale}, capture_output=True, text=True, check=False)
     assert (called.returncode, called.stderr) == (0, "")
