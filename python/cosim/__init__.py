@@ -6,7 +6,8 @@
 
 docs/PYTHON.md of the repository is a tutorial and the reference.
 """
-from .errors import CosimError, InexactFloat, NoMemory, NoProgram, ProgramFailed, Refused, UnfitValue, UnknownName
+from .errors import CosimError, InexactFloat, NoMemory, NoProgram, ProgramFailed, Refused, UnfitValue, Unjoinable, UnknownName
+from .joining import join
 from .models import Model, Saved, Verdict
 from .outcomes import Fault, Outcome, RowBudgetSpent, RunEnded, StepRefused, ZeroBudgetSpent
 from .sweeps import Sweep, SweepRow, sweep
@@ -33,8 +34,10 @@ __all__ = [
     "SweepRow",
     "Trace",
     "UnfitValue",
+    "Unjoinable",
     "UnknownName",
     "Verdict",
     "ZeroBudgetSpent",
+    "join",
     "sweep",
 ]

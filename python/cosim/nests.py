@@ -3,6 +3,7 @@ comes."""
 from typing import Dict, Iterator, List, NamedTuple, Optional, Set, Tuple
 
 from .lines import LONGEST_NAME, Placed, is_part, placed_lines
+from .sources import PLAIN, Source
 
 MOST_INSTANCES = 64
 MOST_CONNECTIONS = 2_048
@@ -83,8 +84,8 @@ class Part(NamedTuple):
 
 
 class Nest(NamedTuple):
-    """A text: its groups, `main` with its units and samples, and the lines of its header and its numbers by their first
-    words."""
+    """A text: its groups, `main` with its units and samples, the lines of its header and its numbers by their first words, and
+    where it comes from."""
 
     groups: List[Part]
     main: Part
@@ -93,6 +94,7 @@ class Nest(NamedTuple):
     numbers: Dict[str, List[Placed]]
     group_names: Dict[str, Part]
     unit_names: Dict[str, Unit]
+    source: Source
 
     def group(self, name: str) -> Optional[Part]:
         """The first group of a name."""
@@ -125,11 +127,11 @@ class TooManyWays(Exception):
     """The text is given up."""
 
 
-def read_nest(text: bytes) -> Nest:
+def read_nest(text: bytes, source: Source = PLAIN) -> Nest:
     """The nest of a text that keeps rules 1 and 3 to 7, and of one with groups also rule 26. Of other texts it has what has a
     form."""
     placed_all = list(placed_lines(text))
-    nest = Nest([], empty_part("", 1), [], [], {}, {}, {})
+    nest = Nest([], empty_part("", 1), [], [], {}, {}, {}, source)
     part = nest.main
     units: List[List[Placed]] = []
     has_parts = any(is_part(placed.tokens) for placed in placed_all)
