@@ -25,6 +25,7 @@ STATE_SET = "a state in a setting"
 PORT_SET = "a port or a local in a setting"
 EXCHANGED = "exchanged ends of a connection"
 UNIT_BEFORE_PORT = "the name of a unit before a port"
+NO_SYSTEM = "a file without a system"
 NO_LENGTH = "`longest` is 0"
 TOO_LATE = "a time above 10^15 ticks"
 
@@ -432,7 +433,7 @@ def without_stop(place: Place) -> Cause:
     """Rule 19: whether the text is a part of a model, which has its system in another file."""
     nest = place.nest
     has_system = nest.main.instances or nest.main.connections or nest.samples or len(nest.numbers) > 1
-    return Cause() if has_system else Cause(("the text has no system; judge it together with the file that has one",))
+    return Cause() if has_system else Cause(("the text has no instance and no other line of a system",), NO_SYSTEM)
 
 
 def no_ticks(place: Place) -> Cause:
