@@ -161,7 +161,7 @@ BROKEN: List[Tuple[str, str, str, str, int, str]] = [
     ("heater.cosim", "charge > 30", "charge > 30.0", "heater.cosim:8", 10, "`charge` is `Int`"),
     ("heater.cosim", "input charge : Int64 = 0", "input charge : Int8 = 300", "heater.cosim:4", 11, "the words of `Int8`"),
     ("heater.cosim", "needs charge = ", "= ", "heater.cosim:6", 12, "write `needs charge`"),
-    ("system.cosim", "stop 3", "connect battery.spare -> heater.charge\nstop 3", "system.cosim:9", 13, "{}/system.cosim:8 leads to `heater.charge` too"),
+    ("system.cosim", "stop 3", "connect battery.spare -> heater.charge\nstop 3", "system.cosim:9", 13, "{}/system.cosim:8 leads to"),
     ("heater.cosim", "input charge : Int64", "input charge : Int32", "system.cosim:8", 14, "`input charge : Int32`, {}/heater.cosim:4"),
     ("system.cosim", "stop 3\n", "", "system.cosim:2", 19, ""),
     ("system.cosim", "stop 3", "stop 3.5", "system.cosim:9", 20, "no whole number of ticks"),
