@@ -1,6 +1,6 @@
 """Reads a text whose lines have forms, with groups or without, and says of which of its lines each line of the flat text
 comes."""
-from typing import Dict, Iterator, List, NamedTuple, Optional, Set, Tuple
+from typing import Dict, Iterator, List, NamedTuple, Optional, Sequence, Set, Tuple
 
 from .lines import LONGEST_NAME, Placed, is_part, placed_lines
 from .sources import PLAIN, Source
@@ -36,6 +36,15 @@ class Declared(NamedTuple):
     def is_event(self) -> bool:
         return self.sort.startswith("event ")
 
+    @property
+    def is_port(self) -> bool:
+        return self.sort.endswith(("input", "output"))
+
+    @property
+    def literal(self) -> str:
+        """What is written after the `=`; nothing where there is none."""
+        return literal_in(self.tokens)
+
 
 class Unit(NamedTuple):
     """A unit: its name, its line, all its lines in canonical order, and what it declares by names, the first of each."""
@@ -49,13 +58,21 @@ class Unit(NamedTuple):
         return [name for name, declared in self.declared.items() if declared.sort in (sort, f"event {sort}")]
 
 
+class Setting(NamedTuple):
+    """A setting of an instance: the parameter, the line, and the literal."""
+
+    name: str
+    line: int
+    literal: str
+
+
 class Instance(NamedTuple):
-    """An instance: its name, its unit or group, its line, and the lines of its settings by name and line, and of its end."""
+    """An instance: its name, its unit or group, its line, its settings, and the lines of its end."""
 
     name: str
     unit: str
     line: int
-    settings: List[Tuple[str, int]]
+    settings: List[Setting]
     last: List[int]
 
 
@@ -172,7 +189,7 @@ def read_line(nest: Nest, part: Part, placed: Placed) -> None:
         if first == "end":
             instance.last.append(line)
         else:
-            instance.settings.append((first, line))
+            instance.settings.append(Setting(first, line, literal_in(placed.tokens)))
     elif first == "instance":
         part.instances.append(Instance(tokens[1], tokens[3], line, [], []))
         part.by_name.setdefault(tokens[1], part.instances[-1])
@@ -186,6 +203,11 @@ def read_line(nest: Nest, part: Part, placed: Placed) -> None:
         nest.samples.append(Link((tokens[1], tokens[3]), ("", ""), line))
     else:
         nest.numbers.setdefault(first, []).append(placed)
+
+
+def literal_in(tokens: Sequence[str]) -> str:
+    """The tokens after the first `=`."""
+    return "".join(tokens[tokens.index("=") + 1 :]) if "=" in tokens else ""
 
 
 def sort_of(placed: Placed) -> str:
@@ -312,7 +334,7 @@ class Flat:
         origins += [Origin(placed.number) for unit in nest.units for placed in unit.lines]
         for _, instance, origin in self.instances:
             origins.append(origin)
-            origins += [Origin(line, origin.ways) for _, line in instance.settings]
+            origins += [Origin(setting.line, origin.ways) for setting in instance.settings]
             origins += [Origin(line, origin.ways) for line in instance.last]
         origins += [origin for _, _, origin in self.connections]
         if not self.is_whole:

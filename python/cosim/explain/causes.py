@@ -144,7 +144,7 @@ def declared_at(place: Place) -> Optional[Declared]:
     if place.unit:
         return place.unit.declared.get(target_of(place))
     for instance in place.nest.main.instances:
-        if any(line == place.line for _, line in instance.settings):
+        if any(setting.line == place.line for setting in instance.settings):
             unit = place.nest.unit(instance.unit)
             return unit.declared.get(place.texts[0]) if unit else None
     return None
@@ -215,7 +215,7 @@ def unknown_unit(place: Place) -> Cause:
                 message = f"there is no unit `{instance.unit}`; there are {names}" if names else "the text has no unit"
                 return Cause((message,), case_of_capitals(instance.unit, place.nest.unit_names))
             unit = place.nest.unit(instance.unit)
-            for name, line in instance.settings:
+            for name, line, _ in instance.settings:
                 if line == place.line and unit:
                     parameters = ", ".join(f"`{declared.name}`" for declared in unit.declared.values() if declared.sort == "param")
                     message = f"`{unit.name}` has no parameter `{name}`" + (f"; it has {parameters}" if parameters else "")

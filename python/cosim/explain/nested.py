@@ -137,7 +137,7 @@ def missing(nest: Nest, part: Part) -> Iterator[Guilty]:
         yield from missing_ends(nest, part, link)
     for instance in part.instances:
         if nest.group(instance.unit) and instance.settings:
-            yield Guilty(instance.settings[0][1], (f"`{instance.name}` is of a group, which has no parameters",))
+            yield Guilty(instance.settings[0].line, (f"`{instance.name}` is of a group, which has no parameters",))
 
 
 def missing_ends(nest: Nest, part: Part, link: Link) -> Iterator[Guilty]:
