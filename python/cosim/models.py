@@ -1,5 +1,4 @@
 """Models: their parts, their settings and their runs."""
-import difflib
 import functools
 import os
 import re
@@ -10,16 +9,14 @@ from typing import Dict, Iterable, Iterator, List, Mapping, Optional, Sequence, 
 from .canonical import Instance, Port, System, Unit, Variable, read_system
 from .errors import CosimError, UnfitValue, UnknownName
 from .explain.inputs import has_groups
-from .nests import Nest, Part, read_nest
+from .nests import read_nest
 from .outcomes import STOPPED, Outcome
 from .program import ACCEPTED, Called
 from .running import Table, Watch, ask_program, judge, read_trace, started, trace_of, watch_of
+from .settings import literal_of_stop, nearest, paths_of, set_in_instance, set_in_unit, value_of_literal
 from .sources import FileLine, Source
 from .traces import Row, Trace
-from .values import Given, Seconds, Value, exact, literal_of, seconds_of, value_of_word, word_of
-
-# The most decimals of a second.
-FINEST = 9
+from .values import Given, Seconds, Value, literal_of, seconds_of, value_of_word
 
 WHOLE = rb"(0|[1-9]\d*)"
 POSITION = re.compile(
@@ -240,18 +237,12 @@ class Model:
             raise UnknownName(f"the unit {unit} has no parameter {parameter!r}{nearest(parameter, parameters)}")
         name, type_name, _ = parameters[parameter]
         lines = self.canonical.splitlines()
-        first = lines.index(f"unit {unit}".encode())
-        start = f"param {name}:{type_name}=".encode()
-        place = next(number for number in range(first, len(lines)) if lines[number].startswith(start))
-        lines[place] = start + literal_of(value, type_name, f"{unit}.{parameter}").encode()
+        set_in_unit(lines, unit, name, type_name, literal_of(value, type_name, f"{unit}.{parameter}"))
         return self.edited(lines)
 
     def set_stop(self, seconds: Seconds) -> "Model":
         """This model with another stop, in seconds. The run judges whether it is a whole number of ticks (rule 20)."""
-        scaled = seconds_of(seconds, "stop") * 10**FINEST
-        if scaled.denominator != 1:
-            raise UnfitValue(f"stop: {seconds} has more than {FINEST} decimals")
-        literal = f"{exact(scaled.numerator, FINEST):f}".rstrip("0").rstrip(".")
+        literal = literal_of_stop(seconds)
         lines = self.canonical.splitlines()
         place = next(number for number, line in enumerate(lines) if line.startswith(b"stop "))
         lines[place] = b"stop " + literal.encode()
@@ -380,36 +371,3 @@ def run_words(workers: int, window: Optional[int], guess: Optional[str]) -> List
     words = ["run", "--workers", str(workers)]
     words += [] if window is None else ["--window", str(window)]
     return words + ([] if guess is None else ["--guess", str(guess)])
-
-
-def paths_of(nest: Nest, part: Part, path: Tuple[str, ...]) -> Iterator[Tuple[str, ...]]:
-    """The paths of the components of a part, depth first."""
-    for instance in part.instances:
-        inner = (*path, instance.name)
-        group = nest.group(instance.unit)
-        if group:
-            yield from paths_of(nest, group, inner)
-        else:
-            yield inner
-
-
-def set_in_instance(lines: List[bytes], instance: str, parameter: str, literal: str) -> None:
-    """Sets a parameter in the lines of an instance of a canonical text."""
-    start = f"instance {instance}:".encode()
-    place = next(number for number, line in enumerate(lines) if line.startswith(start)) + 1
-    setting = f"{parameter}=".encode()
-    while lines[place] != b"end" and not lines[place].startswith(setting):
-        place += 1
-    lines[place : place + (lines[place] != b"end")] = [setting + literal.encode()]
-
-
-def value_of_literal(literal: str, type_name: str, what: str) -> Value:
-    """The value of a literal, with the decimals of its type."""
-    return value_of_word(word_of(literal, type_name, what), type_name)
-
-
-def nearest(name: str, names: Iterable[str]) -> str:
-    """The names that are most like one, or all of a few, as a message has them."""
-    known = list(names)
-    near = difflib.get_close_matches(name, known, 3) or known[:8]
-    return f"; there are {', '.join(near)}" if near else ""
