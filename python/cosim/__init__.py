@@ -6,7 +6,8 @@
 
 docs/PYTHON.md of the repository is a tutorial and the reference.
 """
-from .errors import CosimError, InexactFloat, NoMemory, NoProgram, ProgramFailed, Refused, UnfitValue, UnknownName
+from .errors import CosimError, InexactFloat, NoMemory, NoProgram, ProgramFailed, Refused, UnfitValue, Unjoinable, UnknownName
+from .joining import join
 from .models import Model, Saved, Verdict
 from .outcomes import Fault, Outcome, RowBudgetSpent, RunEnded, StepRefused, ZeroBudgetSpent
 from .reports import report
@@ -34,9 +35,11 @@ __all__ = [
     "SweepRow",
     "Trace",
     "UnfitValue",
+    "Unjoinable",
     "UnknownName",
     "Verdict",
     "ZeroBudgetSpent",
+    "join",
     "report",
     "sweep",
 ]
