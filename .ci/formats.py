@@ -11,9 +11,9 @@ import sys
 
 from common import ROOT, read
 
-# The texts of examples that aren't formatted: of mistakes, a part of a text, what `flatten` writes, and what is joined of
-# other files.
-OTHERS = ("examples/mistakes/", "examples/orbit/", "examples/groups/bus.flat.cosim")
+# The texts of examples that aren't formatted: of mistakes, a part of a text, what `flatten` writes, what is joined of other
+# files, and a system whose units are in other files.
+OTHERS = ("examples/mistakes/", "examples/orbit/", "examples/groups/bus.flat.cosim", "examples/satellite/system.cosim")
 
 # How many random texts are tried, by which seed.
 RANDOM_TEXTS = 300
@@ -22,6 +22,19 @@ SEED = 67
 PLAIN = b"cosim 1\nunit A\nstate n:Int64=0 # counts\noutput y:Int64=n\nend\ninstance a:A\nend\nstop 3\n"
 FORMATTED = (
     b"cosim 1\nunit A\n  state n : Int64 = 0  # counts\n  output y : Int64 = n\nend\ninstance a : A\nend\nstop 3\n"
+)
+
+# Files of units and groups without a system, with what is written for them.
+UNITS, FORMATTED_UNITS = (text[: text.index(b"instance")] for text in (PLAIN, FORMATTED))
+GROUP = b"group G\n  instance a : A\n  end\nmain\n"
+NOT_JUDGED = b"standard input: it is refused at line %d by rule %d, and isn't formatted\n"
+PARTS = (
+    ("units alone", UNITS, (0, b"", FORMATTED_UNITS)),
+    ("units alone, the last line without its end", UNITS[:-1], (0, b"", FORMATTED_UNITS)),
+    ("groups and units alone", GROUP.replace(b"  ", b"") + UNITS, (0, b"", GROUP + FORMATTED_UNITS)),
+    ("units alone, refused", UNITS.replace(b"=n", b"=m"), (3, NOT_JUDGED % (4, 9), b"")),
+    ("no unit", b"cosim 1\n", (3, NOT_JUDGED % (1, 19), b"")),
+    ("no stop", PLAIN.replace(b"stop 3\n", b""), (3, NOT_JUDGED % (1, 19), b"")),
 )
 
 # A line that is longer than a line may be once it has its spaces.
@@ -98,6 +111,8 @@ def formatted_files(trial):
     trial.tally.compare("format, a stream", trial.ask(["tools/format"], PLAIN), (0, b"", FORMATTED))
     trial.tally.compare("format --check, a stream", trial.ask(["tools/format", "--check"], PLAIN), (1, b"", b""))
     trial.tally.compare("format --check, formatted", trial.ask(["tools/format", "--check"], FORMATTED), (0, b"", b""))
+    for name, text, wanted in PARTS:
+        trial.tally.compare(f"format, {name}", trial.ask(["tools/format"], text), wanted)
     wanted = (4, b"nowhere: No such file or directory\n", b"")
     trial.tally.compare("format, nowhere", trial.ask(["tools/format", "nowhere"]), wanted)
     path = os.path.join(trial.clone, "format.cosim")

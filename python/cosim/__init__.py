@@ -1,4 +1,4 @@
-"""Models, traces and sweeps of cosim, over the program that is proved; and what the tools around the program share.
+"""Models, traces, reports and sweeps of cosim, over the program that is proved; and what the tools around the program share.
 
     model = cosim.Model.read("heater.cosim").set("plate.cooling", "0.60")
     trace = model.run().require_completed()
@@ -6,9 +6,11 @@
 
 docs/PYTHON.md of the repository is a tutorial and the reference.
 """
-from .errors import CosimError, InexactFloat, NoMemory, NoProgram, ProgramFailed, Refused, UnfitValue, UnknownName
+from .errors import CosimError, InexactFloat, NoMemory, NoProgram, ProgramFailed, Refused, UnfitValue, Unjoinable, UnknownName
+from .joining import join
 from .models import Model, Saved, Verdict
 from .outcomes import Fault, Outcome, RowBudgetSpent, RunEnded, StepRefused, ZeroBudgetSpent
+from .reports import report
 from .sweeps import Sweep, SweepRow, sweep
 from .traces import Column, Difference, Row, Trace
 
@@ -33,8 +35,11 @@ __all__ = [
     "SweepRow",
     "Trace",
     "UnfitValue",
+    "Unjoinable",
     "UnknownName",
     "Verdict",
     "ZeroBudgetSpent",
+    "join",
+    "report",
     "sweep",
 ]

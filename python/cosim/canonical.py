@@ -1,18 +1,10 @@
 """Reads the canonical text that `print` and `flatten` write, and runs a tool over it."""
-import re
 from typing import Callable, Dict, Iterable, List, NamedTuple, Optional, Sequence, Tuple
 
+from . import nests
 from .program import ACCEPTED, ask
 from .repository import LONGEST_TEXT
 from .streams import note, read_input, write_output
-
-LINE_OF_PORT = re.compile(r"(event )?(input|output) (\w+):([^= ]+(?: \d)?)(?: needs [^=]*)?(?:=(.*))?")
-LINE_OF_VARIABLE = re.compile(r"(param|state) (\w+):([^=]+)=(.*)")
-LINE_OF_INSTANCE = re.compile(r"instance (\w+):(\w+)")
-LINE_OF_SETTING = re.compile(r"(\w+)=(.*)")
-LINE_OF_CONNECTION = re.compile(r"connect (\w+)\.(\w+)->(\w+)\.(\w+)")
-LINE_OF_SAMPLE = re.compile(r"sample (\w+)\.(\w+)")
-LINE_OF_NUMBER = re.compile(r"(cosim|resolution|stop|longest|zero|rows) ([\d.]+)")
 
 
 class Variable(NamedTuple):
@@ -91,41 +83,35 @@ class System(NamedTuple):
 
 def read_system(canonical: bytes) -> System:
     """The system that a canonical text describes."""
-    system = System({}, {}, [], [], [], {})
-    ports: Dict[Tuple[str, str], Port] = {}
-    unit = Unit("", 0, {}, {}, [])
-    instance = Instance("", "", {})
-    for line in canonical.decode().splitlines():
-        if line.startswith("unit "):
-            unit = Unit(line[len("unit ") :], 0, {}, {}, [])
-            system.units[unit.name] = unit
-        elif port := LINE_OF_PORT.fullmatch(line):
-            event, kind, name, type_name, value = port.groups()
-            is_input = kind == "input"
-            unit.ports.append(Port(unit.name, name, is_input, event is not None, type_name, value if is_input else None))
-        elif variable := LINE_OF_VARIABLE.fullmatch(line):
-            variables = unit.parameters if variable[1] == "param" else unit.states
-            variables[variable[2]] = Variable(*variable.groups()[1:])
-        elif found := LINE_OF_INSTANCE.fullmatch(line):
-            instance = Instance(found[1], found[2], {})
-            system.instances[instance.name] = instance
-            of_unit = system.units[instance.unit].ports
-            ports.update({(instance.name, port.name): port._replace(instance=instance.name) for port in of_unit})
-        elif connection := LINE_OF_CONNECTION.fullmatch(line):
-            start, start_port, end, end_port = connection.groups()
-            system.connections.append((ports[start, start_port], ports[end, end_port]))
-        elif sample := LINE_OF_SAMPLE.fullmatch(line):
-            system.samples.append(ports[sample[1], sample[2]])
-        elif number := LINE_OF_NUMBER.fullmatch(line):
-            if number[1] == "resolution":
-                unit = unit._replace(resolution=int(number[2]))
-                system.units[unit.name] = unit
-            else:
-                system.numbers[number[1]] = number[2]
-        elif instance.name and (setting := LINE_OF_SETTING.fullmatch(line)):
-            instance.settings[setting[1]] = setting[2]
-    system.ports.extend(ports.values())
-    return system
+    nest = nests.read_nest(canonical)
+    units = {unit.name: unit_of(unit) for unit in nest.units}
+    instances = {read.name: instance_of(read) for read in nest.main.instances}
+    of_instances = {name: ports_of(instance, units[instance.unit]) for name, instance in instances.items()}
+    ports = {(port.instance, port.name): port for of_instance in of_instances.values() for port in of_instance}
+    connections = [(ports[link.start], ports[link.end]) for link in nest.main.connections]
+    samples = [ports[link.start] for link in nest.samples]
+    numbers = {word: lines[0].tokens[1] for word, lines in nest.numbers.items()}
+    return System(units, instances, list(ports.values()), connections, samples, numbers)
+
+
+def unit_of(read: nests.Unit) -> Unit:
+    resolution = next((int(line.tokens[1]) for line in read.lines if line.tokens[0] == "resolution"), 0)
+    variables = [(declared.sort, Variable(declared.name, declared.type, declared.literal)) for declared in read.declared.values()]
+    parameters, states = ({variable.name: variable for sort, variable in variables if sort == wanted} for wanted in ("param", "state"))
+    return Unit(read.name, resolution, parameters, states, [port_of(read.name, declared) for declared in read.declared.values() if declared.is_port])
+
+
+def port_of(unit: str, declared: nests.Declared) -> Port:
+    is_input = declared.sort.endswith("input")
+    return Port(unit, declared.name, is_input, declared.is_event, declared.type, (declared.literal or None) if is_input else None)
+
+
+def instance_of(read: nests.Instance) -> Instance:
+    return Instance(read.name, read.unit, {setting.name: setting.literal for setting in read.settings})
+
+
+def ports_of(instance: Instance, unit: Unit) -> List[Port]:
+    return [port._replace(instance=instance.name) for port in unit.ports]
 
 
 def run(document: Optional[str], words: Sequence[str], lines_of: Callable[[System], Iterable[str]]) -> int:

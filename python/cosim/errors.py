@@ -4,10 +4,14 @@ from typing import Optional, Tuple
 from .documents import page
 from .explain.refusals import advice
 from .program import REFUSED, Called
+from .sources import FileLine, Source
 from .streams import READ_FAULT, WRITE_FAULT
 
 NO_MEMORY = 1
 USAGE = 2
+
+# The rule of the length of a text, which no single file of a joined text breaks.
+LENGTH = 2
 
 
 class CosimError(Exception):
@@ -53,9 +57,9 @@ class NoMemory(ProgramFailed):
 class Refused(CosimError):
     """The program refuses a text.
 
-    `line` counts from 1; of a text with groups it is a line of that text, and None where no line of it can be named. `rule` is
-    the number of a rule of docs/RULES.md, `title` says what is wrong, `cure` what mends it, and `details` has what ./explain
-    prints between them.
+    `line` counts from 1; of a text with groups it is a line of that text, and None where no line of it can be named. `file` is the
+    path of the file that has the line, or None where the text comes from no file. `rule` is the number of a rule of docs/RULES.md,
+    `title` says what is wrong, `cure` what mends it, and `details` has what ./explain prints between them.
     """
 
     def __init__(
@@ -68,21 +72,35 @@ class Refused(CosimError):
         title: str,
         cure: str,
         details: Tuple[str, ...] = (),
+        file: Optional[str] = None,
     ) -> None:
-        super().__init__(message, status, note, line, rule, title, cure, details)
+        super().__init__(message, status, note, line, rule, title, cure, details, file)
         self.line = line
         self.rule = rule
         self.title = title
         self.cure = cure
         self.details = details
+        self.file = file
 
 
-def refused(text: bytes, line: int, rule: int, note: str, name: str = "model") -> Refused:
-    """The exception for a text that was refused at a line by a rule."""
-    found = advice(text, line, rule)
-    place = f"{name}:{found.line}" if found.line else name
-    message = "\n".join([f"{place}: rule {rule}: {found.title}", *found.details, f"cure: {found.cure}"])
-    return Refused(message, REFUSED, note, found.line, rule, found.title, found.cure, found.details)
+class Unjoinable(CosimError):
+    """Files can't be joined to one text. `places` has the lines that say why, each with its file."""
+
+    def __init__(self, message: str, status: Optional[int] = None, note: str = "", places: Tuple[FileLine, ...] = ()) -> None:
+        super().__init__(message, status, note, places)
+        self.places = places
+
+
+def refused(text: bytes, line: int, rule: int, note: str, source: Source) -> Refused:
+    """The exception for a text that was refused at a line by a rule. `source` says where the text comes from."""
+    found = advice(text, line, rule, source)
+    named = None if source.is_joined and rule == LENGTH else found.line
+    message = "\n".join([f"{source.place(named)}: rule {rule}: {found.title}", *found.details, f"cure: {found.cure}"])
+    origin = None if named is None else source.origin(named)
+    if source.is_joined:
+        named = origin.line if origin else None
+    file = origin.file if origin else source.file
+    return Refused(message, REFUSED, note, named, rule, found.title, found.cure, found.details, file)
 
 
 def failed(called: Called, shown: str) -> ProgramFailed:

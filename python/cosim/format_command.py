@@ -6,6 +6,7 @@ from typing import List, NamedTuple, Optional, Sequence
 
 from .explain.inputs import has_groups
 from .formatting import format_text
+from .lines import is_part, placed_lines
 from .program import ACCEPTED, REFUSED, ask
 from .repository import LONGEST_TEXT
 from .streams import READ_FAULT, WRITE_FAULT, clean_name, note, read_at_most, read_input, write_output
@@ -16,6 +17,9 @@ NO_FORM = 2
 
 CHECK = "--check"
 
+# The rule of texts without `stop`, which a file of units alone breaks.
+NO_STOP = 19
+
 
 class Formatted(NamedTuple):
     """A formatted text; or none, with the status and the reason."""
@@ -25,16 +29,30 @@ class Formatted(NamedTuple):
     reason: str = ""
 
 
+def rest_of_model(text: bytes) -> bytes:
+    """Lines after which a text of units and groups alone is a model; nothing for a text with other lines."""
+    lines = [line for line in placed_lines(text) if line.tokens and not line.blocks]
+    outside = [line.tokens for line in lines if not line.in_group or is_part(line.tokens)]
+    names = [tokens[1] for tokens in outside if tokens[0] in ("unit", "group")]
+    if not names or any(tokens[0] not in ("cosim", "unit", "group", "main") for tokens in outside):
+        return b""
+    instances = "".join(f"instance a{number} : {name}\nend\n" for number, name in enumerate(names))
+    return f"\n{instances}stop 1\n".encode()
+
+
 def format_safely(text: bytes) -> Formatted:
     """A text as it is formatted, if the program prints the same canonical text of both."""
     command = "flatten" if has_groups(text) else "print"
-    before = ask(command, text)
+    before, rest = ask(command, text), b""
+    if before.rule == NO_STOP:
+        rest = rest_of_model(text)
+        before = ask(command, text + rest)
     if before.line is not None:
         return Formatted(None, before.status, f"it is refused at line {before.line} by rule {before.rule}, and isn't formatted")
     if before.status != ACCEPTED:
         return Formatted(None, before.status, "it isn't formatted")
     formatted = format_text(text)
-    after = ask(command, formatted)
+    after = ask(command, formatted + rest)
     if after.line is not None:
         return Formatted(None, REFUSED, f"formatted it would break rule {after.rule} at line {after.line}, so it stays as it is")
     if (after.status, after.output) != (before.status, before.output):

@@ -54,14 +54,19 @@ def split_comment(line: bytes) -> Tuple[bytes, bytes]:
     return line[: found.end()], line[found.end() :]
 
 
+def code_of(line: bytes) -> str:
+    """What is before the comment of a line."""
+    return split_comment(line)[0].decode("latin-1")
+
+
 def tokens_of(line: bytes) -> List[Token]:
     """The tokens before the comment of a line."""
-    code = split_comment(line)[0].decode("latin-1")
-    return [Token(found[0], found.start()) for found in TOKEN.finditer(code)]
+    return [Token(found[0], found.start()) for found in TOKEN.finditer(code_of(line))]
 
 
 def texts_of(line: bytes) -> List[str]:
-    return [token.text for token in tokens_of(line)]
+    """The texts of the tokens before the comment of a line."""
+    return TOKEN.findall(code_of(line))
 
 
 def is_part(tokens: List[str]) -> bool:

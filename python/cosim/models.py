@@ -1,5 +1,4 @@
 """Models: their parts, their settings and their runs."""
-import difflib
 import functools
 import os
 import re
@@ -10,15 +9,14 @@ from typing import Dict, Iterable, Iterator, List, Mapping, Optional, Sequence, 
 from .canonical import Instance, Port, System, Unit, Variable, read_system
 from .errors import CosimError, UnfitValue, UnknownName
 from .explain.inputs import has_groups
-from .nests import Nest, Part, read_nest
+from .nests import read_nest
 from .outcomes import STOPPED, Outcome
 from .program import ACCEPTED, Called
 from .running import Table, Watch, ask_program, judge, read_trace, started, trace_of, watch_of
+from .settings import literal_of_stop, nearest, paths_of, set_in_instance, set_in_unit, value_of_literal
+from .sources import FileLine, Source
 from .traces import Row, Trace
-from .values import Given, Seconds, Value, exact, literal_of, seconds_of, value_of_word, word_of
-
-# The most decimals of a second.
-FINEST = 9
+from .values import Given, Seconds, Value, literal_of, seconds_of, value_of_word
 
 WHOLE = rb"(0|[1-9]\d*)"
 POSITION = re.compile(
@@ -58,7 +56,7 @@ class Saved:
         data = text.encode() if isinstance(text, str) else text
         found = POSITION.match(data)
         if not found:
-            ask_program(["resume"], data, name)
+            ask_program(["resume"], data, Source(name))
             raise UnfitValue(f"{name}: it has no position")
         lines = [line.split() for line in found[4].decode().splitlines()]
         words = {line[1]: tuple(map(int, line[2:])) for line in lines}
@@ -94,12 +92,13 @@ class Model:
     """A model. No method changes it: those that set something return another model.
 
     `text` is the text as it was given, with groups or without, and `name` what errors call it. A text is judged when it is
-    first needed; `check` judges it at once.
+    first needed; `check` judges it at once. `source` says where the text comes from, if it isn't `name` alone.
     """
 
-    def __init__(self, text: bytes, name: str = "model") -> None:
+    def __init__(self, text: bytes, name: str = "model", source: Optional[Source] = None) -> None:
         self.text = text
-        self.name = name
+        self.source = source or Source(name)
+        self.name = self.source.name
         # Where something was set: the canonical text with it, and the components of the text that it was set in.
         self._edited: Optional[bytes] = None
         self._components: Optional[Dict[str, str]] = None
@@ -108,7 +107,7 @@ class Model:
     def read(cls, path: Union[str, "os.PathLike[str]"]) -> "Model":
         """The model in a file. OSError where it can't be read."""
         with open(path, "rb") as file:
-            return cls(file.read(), os.fspath(path))
+            return cls(file.read(), source=source_of(path))
 
     @classmethod
     def from_text(cls, text: Union[str, bytes], name: str = "model") -> "Model":
@@ -119,7 +118,7 @@ class Model:
     def stimulus(cls, table: Union[str, bytes], name: str = "table") -> "Model":
         """The model that plays a table, as `cosim stimulus` makes it. Refused where the table has another form."""
         data = table.encode() if isinstance(table, str) else table
-        return cls(ask_program(["stimulus"], data, name), name)
+        return cls(ask_program(["stimulus"], data, Source(name)), name)
 
     @property
     def has_groups(self) -> bool:
@@ -130,12 +129,25 @@ class Model:
         """The canonical text, made flat where the model has groups. Refused where a rule is broken."""
         if self._edited is not None:
             return self._edited
-        return ask_program(["flatten" if self.has_groups else "print"], self.text, self.name)
+        return ask_program(["flatten" if self.has_groups else "print"], self.text, self.source)
 
     @property
     def runnable(self) -> bytes:
         """The text that is run. Where it may be, it is the one that was given, so that a refusal names its lines."""
         return self.canonical if self.has_groups or self._edited is not None else self.text
+
+    @property
+    def source_of_runnable(self) -> Source:
+        """Where the text that is run comes from: lines of a canonical text aren't those of a file."""
+        return self.source if self.runnable is self.text else Source(f"canonical text of {self.name}")
+
+    def origin(self, line: int) -> FileLine:
+        """The file and the line there that a line of `text` comes from, as the program counts lines. UnknownName where there is
+        none."""
+        found = self.source.origin(line) if 1 <= line <= self.text.count(b"\n") + 1 else None
+        if found is None:
+            raise UnknownName(f"{self.name}: line {line} comes from no file")
+        return found
 
     @functools.cached_property
     def system(self) -> System:
@@ -144,7 +156,7 @@ class Model:
 
     def check(self) -> None:
         """Judges the model. Refused where it breaks a rule."""
-        ask_program(["check"], self.runnable, self.name)
+        ask_program(["check"], self.runnable, self.source_of_runnable)
 
     @property
     def units(self) -> Dict[str, Unit]:
@@ -225,18 +237,12 @@ class Model:
             raise UnknownName(f"the unit {unit} has no parameter {parameter!r}{nearest(parameter, parameters)}")
         name, type_name, _ = parameters[parameter]
         lines = self.canonical.splitlines()
-        first = lines.index(f"unit {unit}".encode())
-        start = f"param {name}:{type_name}=".encode()
-        place = next(number for number in range(first, len(lines)) if lines[number].startswith(start))
-        lines[place] = start + literal_of(value, type_name, f"{unit}.{parameter}").encode()
+        set_in_unit(lines, unit, name, type_name, literal_of(value, type_name, f"{unit}.{parameter}"))
         return self.edited(lines)
 
     def set_stop(self, seconds: Seconds) -> "Model":
         """This model with another stop, in seconds. The run judges whether it is a whole number of ticks (rule 20)."""
-        scaled = seconds_of(seconds, "stop") * 10**FINEST
-        if scaled.denominator != 1:
-            raise UnfitValue(f"stop: {seconds} has more than {FINEST} decimals")
-        literal = f"{exact(scaled.numerator, FINEST):f}".rstrip("0").rstrip(".")
+        literal = literal_of_stop(seconds)
         lines = self.canonical.splitlines()
         place = next(number for number, line in enumerate(lines) if line.startswith(b"stop "))
         lines[place] = b"stop " + literal.encode()
@@ -244,7 +250,7 @@ class Model:
 
     def edited(self, lines: Sequence[bytes]) -> "Model":
         """The model whose canonical text has these lines."""
-        model = Model(self.text, self.name)
+        model = Model(self.text, source=self.source)
         model._edited = b"\n".join(lines) + b"\n"
         model._components = self.components
         return model
@@ -255,7 +261,7 @@ class Model:
 
     def upgrade(self) -> "Model":
         """The same model in version 2 of the language."""
-        return Model(ask_program(["upgrade"], self.runnable, self.name), self.name)
+        return Model(ask_program(["upgrade"], self.runnable, self.source_of_runnable), self.name)
 
     def table(self, has_header: bool = True) -> Table:
         return Table(self.system, has_header)
@@ -281,7 +287,7 @@ class Model:
         words = run_words(workers, window, guess)
         limit = None if until is None else seconds_of(until, "until")
         with watch_of(progress, self.stop) as watch:
-            return read_trace(words, self.runnable, self.name, self.table(), limit, watch)
+            return read_trace(words, self.runnable, self.source_of_runnable, self.table(), limit, watch)
 
     def rows(self, workers: int = 0, window: Optional[int] = None, guess: Optional[str] = None) -> Iterator[Row]:
         """The rows of the trace as they come. The run is stopped where they are read no further.
@@ -298,13 +304,13 @@ class Model:
                 is_header = False
                 yield from trace
             called = begun.finish()
-        trace_of(judge(called, words, text, self.name), table).require_completed()
+        trace_of(judge(called, words, text, self.source_of_runnable), table).require_completed()
 
     def save(self, row: int) -> Saved:
         """The position of the run at a row, from 0. UnknownName where the trace has none of this number."""
         words = ["save", "--row", str(row)]
         try:
-            text = ask_program(words, self.runnable, self.name)
+            text = ask_program(words, self.runnable, self.source_of_runnable)
         except CosimError as error:
             if getattr(error, "rule", None) == 31:
                 raise UnknownName(f"there is no row {row}: {error}", error.status, error.note) from None
@@ -321,14 +327,15 @@ class Model:
         The position may be one of another model with the same states. Refused (rule 33) where it doesn't fit this one.
         """
         position = saved if isinstance(saved, Saved) else Saved.from_text(saved)
-        return read_trace(["resume"], position.position + self.runnable, self.name, self.table(has_header=False))
+        source = Source(f"saved text of {self.name}")
+        return read_trace(["resume"], position.position + self.runnable, source, self.table(has_header=False))
 
     def verify(self, trace: Union[Trace, bytes, str]) -> Verdict:
         """Whether a trace, or a table, is the trace of this model; the program makes the trace again."""
         if isinstance(trace, Trace) and not trace.has_header:
             raise UnfitValue("a trace of resume isn't a whole trace, which verify requires")
         table = trace.table if isinstance(trace, Trace) else trace.encode() if isinstance(trace, str) else trace
-        answer = ask_program(["verify"], self.canonical + b"trace\n" + table, self.name).split()
+        answer = ask_program(["verify"], self.canonical + b"trace\n" + table, Source(self.name)).split()
         if answer[0] == b"yes":
             return Verdict(True)
         return Verdict(False, int(answer[1]), int(answer[2]))
@@ -336,7 +343,7 @@ class Model:
     def replay(self, seed: int, workers: int) -> Trace:
         """The trace by drawn events of workers; `Trace.counts` has their counts."""
         words = ["replay", "--seed", str(seed), "--workers", str(workers)]
-        return read_trace(words, self.runnable, self.name, self.table())
+        return read_trace(words, self.runnable, self.source_of_runnable, self.table())
 
     def nodes(self, seed: int, rounds: int) -> Trace:
         """The rows that node 0 of two commits in so many rounds; `Trace.counts` has the rows of "node 0" and "node 1".
@@ -344,7 +351,7 @@ class Model:
         The outcome is "stopped" where node 0 hasn't come to the stop.
         """
         words = ["nodes", "--seed", str(seed), "--rounds", str(rounds)]
-        trace = read_trace(words, self.runnable, self.name, self.table())
+        trace = read_trace(words, self.runnable, self.source_of_runnable, self.table())
         if trace.outcome.completed and (not trace.records or trace.time[-1] != self.stop):
             trace.outcome = Outcome(STOPPED, ACCEPTED)
         return trace
@@ -355,40 +362,12 @@ class Model:
             return Trace.of_table(file.read(), self.system.columns, self.system.resolution, os.fspath(path))
 
 
+def source_of(path: Union[str, "os.PathLike[str]"]) -> Source:
+    """The source of a text that a file has."""
+    return Source(os.fspath(path), os.fspath(path))
+
+
 def run_words(workers: int, window: Optional[int], guess: Optional[str]) -> List[str]:
     words = ["run", "--workers", str(workers)]
     words += [] if window is None else ["--window", str(window)]
     return words + ([] if guess is None else ["--guess", str(guess)])
-
-
-def paths_of(nest: Nest, part: Part, path: Tuple[str, ...]) -> Iterator[Tuple[str, ...]]:
-    """The paths of the components of a part, depth first."""
-    for instance in part.instances:
-        inner = (*path, instance.name)
-        group = nest.group(instance.unit)
-        if group:
-            yield from paths_of(nest, group, inner)
-        else:
-            yield inner
-
-
-def set_in_instance(lines: List[bytes], instance: str, parameter: str, literal: str) -> None:
-    """Sets a parameter in the lines of an instance of a canonical text."""
-    start = f"instance {instance}:".encode()
-    place = next(number for number, line in enumerate(lines) if line.startswith(start)) + 1
-    setting = f"{parameter}=".encode()
-    while lines[place] != b"end" and not lines[place].startswith(setting):
-        place += 1
-    lines[place : place + (lines[place] != b"end")] = [setting + literal.encode()]
-
-
-def value_of_literal(literal: str, type_name: str, what: str) -> Value:
-    """The value of a literal, with the decimals of its type."""
-    return value_of_word(word_of(literal, type_name, what), type_name)
-
-
-def nearest(name: str, names: Iterable[str]) -> str:
-    """The names that are most like one, or all of a few, as a message has them."""
-    known = list(names)
-    near = difflib.get_close_matches(name, known, 3) or known[:8]
-    return f"; there are {', '.join(near)}" if near else ""

@@ -1,8 +1,9 @@
 """Reads a text whose lines have forms, with groups or without, and says of which of its lines each line of the flat text
 comes."""
-from typing import Dict, Iterator, List, NamedTuple, Optional, Set, Tuple
+from typing import Dict, Iterator, List, NamedTuple, Optional, Sequence, Set, Tuple
 
 from .lines import LONGEST_NAME, Placed, is_part, placed_lines
+from .sources import PLAIN, Source
 
 MOST_INSTANCES = 64
 MOST_CONNECTIONS = 2_048
@@ -35,6 +36,15 @@ class Declared(NamedTuple):
     def is_event(self) -> bool:
         return self.sort.startswith("event ")
 
+    @property
+    def is_port(self) -> bool:
+        return self.sort.endswith(("input", "output"))
+
+    @property
+    def literal(self) -> str:
+        """What is written after the `=`; nothing where there is none."""
+        return literal_in(self.tokens)
+
 
 class Unit(NamedTuple):
     """A unit: its name, its line, all its lines in canonical order, and what it declares by names, the first of each."""
@@ -48,13 +58,21 @@ class Unit(NamedTuple):
         return [name for name, declared in self.declared.items() if declared.sort in (sort, f"event {sort}")]
 
 
+class Setting(NamedTuple):
+    """A setting of an instance: the parameter, the line, and the literal."""
+
+    name: str
+    line: int
+    literal: str
+
+
 class Instance(NamedTuple):
-    """An instance: its name, its unit or group, its line, and the lines of its settings by name and line, and of its end."""
+    """An instance: its name, its unit or group, its line, its settings, and the lines of its end."""
 
     name: str
     unit: str
     line: int
-    settings: List[Tuple[str, int]]
+    settings: List[Setting]
     last: List[int]
 
 
@@ -83,8 +101,8 @@ class Part(NamedTuple):
 
 
 class Nest(NamedTuple):
-    """A text: its groups, `main` with its units and samples, and the lines of its header and its numbers by their first
-    words."""
+    """A text: its groups, `main` with its units and samples, the lines of its header and its numbers by their first words, and
+    where it comes from."""
 
     groups: List[Part]
     main: Part
@@ -93,6 +111,7 @@ class Nest(NamedTuple):
     numbers: Dict[str, List[Placed]]
     group_names: Dict[str, Part]
     unit_names: Dict[str, Unit]
+    source: Source
 
     def group(self, name: str) -> Optional[Part]:
         """The first group of a name."""
@@ -125,11 +144,11 @@ class TooManyWays(Exception):
     """The text is given up."""
 
 
-def read_nest(text: bytes) -> Nest:
+def read_nest(text: bytes, source: Source = PLAIN) -> Nest:
     """The nest of a text that keeps rules 1 and 3 to 7, and of one with groups also rule 26. Of other texts it has what has a
     form."""
     placed_all = list(placed_lines(text))
-    nest = Nest([], empty_part("", 1), [], [], {}, {}, {})
+    nest = Nest([], empty_part("", 1), [], [], {}, {}, {}, source)
     part = nest.main
     units: List[List[Placed]] = []
     has_parts = any(is_part(placed.tokens) for placed in placed_all)
@@ -170,7 +189,7 @@ def read_line(nest: Nest, part: Part, placed: Placed) -> None:
         if first == "end":
             instance.last.append(line)
         else:
-            instance.settings.append((first, line))
+            instance.settings.append(Setting(first, line, literal_in(placed.tokens)))
     elif first == "instance":
         part.instances.append(Instance(tokens[1], tokens[3], line, [], []))
         part.by_name.setdefault(tokens[1], part.instances[-1])
@@ -184,6 +203,11 @@ def read_line(nest: Nest, part: Part, placed: Placed) -> None:
         nest.samples.append(Link((tokens[1], tokens[3]), ("", ""), line))
     else:
         nest.numbers.setdefault(first, []).append(placed)
+
+
+def literal_in(tokens: Sequence[str]) -> str:
+    """The tokens after the first `=`."""
+    return "".join(tokens[tokens.index("=") + 1 :]) if "=" in tokens else ""
 
 
 def sort_of(placed: Placed) -> str:
@@ -310,7 +334,7 @@ class Flat:
         origins += [Origin(placed.number) for unit in nest.units for placed in unit.lines]
         for _, instance, origin in self.instances:
             origins.append(origin)
-            origins += [Origin(line, origin.ways) for _, line in instance.settings]
+            origins += [Origin(setting.line, origin.ways) for setting in instance.settings]
             origins += [Origin(line, origin.ways) for line in instance.last]
         origins += [origin for _, _, origin in self.connections]
         if not self.is_whole:

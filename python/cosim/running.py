@@ -10,6 +10,7 @@ from .outcomes import STOPPED, Outcome, counts_of, outcome_of
 from .program import ACCEPTED, NO_PROGRAM, Call, Called, call, program, read_refusal
 from .progress import bar
 from .repository import read_document
+from .sources import Source
 from .traces import Trace
 from .values import ticks_of
 
@@ -49,11 +50,11 @@ def options_of(command: str) -> str:
     return row[1] if row else ""
 
 
-def judge(called: Called, words: Sequence[str], text: bytes, name: str) -> Called:
-    """A call that has an answer; and else its exception. `text` is the input, and `name` what it is called."""
+def judge(called: Called, words: Sequence[str], text: bytes, source: Source) -> Called:
+    """A call that has an answer; and else its exception. `text` is the input, and `source` where it comes from."""
     refusal = read_refusal(called.notes)
     if refusal:
-        raise refused(text, int(refusal[1]), int(refusal[2]), called.note, name)
+        raise refused(text, int(refusal[1]), int(refusal[2]), called.note, source)
     if called.status == USAGE:
         raise UnfitValue(f"{shown(words)} has no form; the options are: {options_of(words[0])}", USAGE, called.note)
     if called.status == NO_PROGRAM:
@@ -63,13 +64,13 @@ def judge(called: Called, words: Sequence[str], text: bytes, name: str) -> Calle
     return called
 
 
-def ask_program(words: Sequence[str], text: bytes, name: str) -> bytes:
+def ask_program(words: Sequence[str], text: bytes, source: Source) -> bytes:
     """The output of a call that ends with status 0; and else its exception."""
     try:
         called = call(words, text)
     except OSError as error:
         raise start_failed(error) from None
-    return judge(called, words, text, name).output
+    return judge(called, words, text, source).output
 
 
 def trace_of(called: Called, table: Table, outcome: Optional[Outcome] = None) -> Trace:
@@ -96,7 +97,7 @@ def started(words: Sequence[str], text: bytes) -> Iterator[Call]:
 
 
 def read_trace(
-    words: Sequence[str], text: bytes, name: str, table: Table, until: Optional[Fraction] = None, watch: Optional[Watch] = None
+    words: Sequence[str], text: bytes, source: Source, table: Table, until: Optional[Fraction] = None, watch: Optional[Watch] = None
 ) -> Trace:
     """The rows of a call, which are read as they come."""
     with started(words, text) as begun:
@@ -115,7 +116,7 @@ def read_trace(
         called = begun.finish(b"".join(pieces))
     if is_stopped:
         return trace_of(called._replace(notes=b""), table, Outcome(STOPPED))
-    return trace_of(judge(called, words, text, name), table)
+    return trace_of(judge(called, words, text, source), table)
 
 
 def up_to(piece: bytes, until: Fraction, table: Table, is_first: bool) -> bytes:

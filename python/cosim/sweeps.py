@@ -14,8 +14,9 @@ from typing import Any, BinaryIO, Callable, Dict, Iterator, List, Mapping, Named
 
 from .canonical import Variable
 from .errors import CosimError, UnfitValue
-from .models import Model, value_of_literal
+from .models import Model
 from .progress import bar
+from .settings import value_of_literal
 from .traces import Trace
 from .values import Given, Value, literal_of
 

@@ -6,6 +6,7 @@ from typing import Callable, Dict, Iterable, Iterator, List, NamedTuple, Optiona
 from ..grammar import Leaves, Node, Reader
 from ..lines import NUMBER, Placed, Token, split_lines, tokens_of
 from ..nests import Declared, End, Flat, Nest, Origin, TooLarge, Unit, read_nest
+from ..sources import PLAIN, Source
 from .foreign import not_ascii
 from .kinds import BOOL, FORM_OF_LITERAL, INT, NO_BOOL, RESULT, Cause, Kinds, Wrong, kind_of_type
 from .positions import range_of
@@ -24,6 +25,7 @@ STATE_SET = "a state in a setting"
 PORT_SET = "a port or a local in a setting"
 EXCHANGED = "exchanged ends of a connection"
 UNIT_BEFORE_PORT = "the name of a unit before a port"
+NO_SYSTEM = "a file without a system"
 NO_LENGTH = "`longest` is 0"
 TOO_LATE = "a time above 10^15 ticks"
 
@@ -56,16 +58,20 @@ class Place(NamedTuple):
             return "step"
         return " ".join(self.texts[:2]) if self.texts[:1] == ["event"] else "".join(self.texts[:1])
 
+    def name(self, line: int) -> str:
+        """A line as messages name it."""
+        return self.nest.source.lines(line)
 
-def cause_of(text: bytes, line: int, rule: int) -> Cause:
-    """What is to be said of a line that breaks a rule, where something can be said."""
+
+def cause_of(text: bytes, line: int, rule: int, source: Source = PLAIN) -> Cause:
+    """What is to be said of a line that breaks a rule, where something can be said. `source` says how lines are named."""
     lines = split_lines(text)
     if rule == 1 and 1 <= line <= len(lines):
         return not_ascii(lines[line - 1])
     explain = EXPLAINERS.get(rule)
     if not explain or not 1 <= line <= len(lines):
         return Cause()
-    nest = read_nest(text)
+    nest = read_nest(text, source)
     found = [(unit, placed) for unit in nest.units for placed in unit.lines if placed.number == line]
     unit, placed = found[0] if found else (None, None)
     return explain(Place(nest, flat_of(nest), line, tuple(tokens_of(lines[line - 1])), unit, placed))
@@ -138,7 +144,7 @@ def declared_at(place: Place) -> Optional[Declared]:
     if place.unit:
         return place.unit.declared.get(target_of(place))
     for instance in place.nest.main.instances:
-        if any(line == place.line for _, line in instance.settings):
+        if any(setting.line == place.line for setting in instance.settings):
             unit = place.nest.unit(instance.unit)
             return unit.declared.get(place.texts[0]) if unit else None
     return None
@@ -209,7 +215,7 @@ def unknown_unit(place: Place) -> Cause:
                 message = f"there is no unit `{instance.unit}`; there are {names}" if names else "the text has no unit"
                 return Cause((message,), case_of_capitals(instance.unit, place.nest.unit_names))
             unit = place.nest.unit(instance.unit)
-            for name, line in instance.settings:
+            for name, line, _ in instance.settings:
                 if line == place.line and unit:
                     parameters = ", ".join(f"`{declared.name}`" for declared in unit.declared.values() if declared.sort == "param")
                     message = f"`{unit.name}` has no parameter `{name}`" + (f"; it has {parameters}" if parameters else "")
@@ -292,7 +298,7 @@ def twice(place: Place) -> Cause:
     else:
         others = [instance.line for instance in nest.main.instances if instance.name == name]
     other = next((line for line in others if line != place.line), None)
-    return Cause((f"line {other} declares `{name}` too",)) if other else Cause()
+    return Cause((f"{place.name(other)} declares `{name}` too",)) if other else Cause()
 
 
 def lacking(place: Place) -> Cause:
@@ -312,7 +318,7 @@ def connected_before(place: Place) -> Cause:
     ends: Dict[End, Origin] = {}
     for _, end, origin in place.flat.connections if place.flat else ():
         if end in ends and origin.line == place.line:
-            return Cause((f"line {ends[end].line} leads to `{end[0]}.{end[1]}` too",))
+            return Cause((f"{place.name(ends[end].line)} leads to `{end[0]}.{end[1]}` too",))
         ends.setdefault(end, origin)
     return Cause()
 
@@ -325,8 +331,8 @@ def port_of(place: Place, end: End) -> Optional[Declared]:
     return None
 
 
-def describe_port(end: End, declared: Declared) -> str:
-    return f"`{end[0]}.{end[1]}` is `{declared.sort} {declared.name} : {declared.type}`, line {declared.line}"
+def describe_port(place: Place, end: End, declared: Declared) -> str:
+    return f"`{end[0]}.{end[1]}` is `{declared.sort} {declared.name} : {declared.type}`, {place.name(declared.line)}"
 
 
 def unequal(place: Place) -> Cause:
@@ -336,7 +342,7 @@ def unequal(place: Place) -> Cause:
             continue
         ours, theirs = port_of(place, start), port_of(place, end)
         if ours and theirs and (ours.type != theirs.type or ours.is_event != theirs.is_event):
-            ends = [describe_port(start, ours), describe_port(end, theirs)]
+            ends = [describe_port(place, start, ours), describe_port(place, end, theirs)]
             case = None if ours.is_event == theirs.is_event else EVENT_TO_PLAIN if ours.is_event else PLAIN_TO_EVENT
             return Cause((", and ".join(ends),), case)
     return Cause()
@@ -349,7 +355,7 @@ def cycle(place: Place) -> Cause:
     if start is None:
         return Cause()
     ring = cycle_from(start, needs)
-    needed = (f"`{output[0]}.{output[1]}` needs `{source[0]}.{source[1]}` (line {line})" for output, source, line in ring)
+    needed = (f"`{output[0]}.{output[1]}` needs `{source[0]}.{source[1]}` ({place.name(line)})" for output, source, line in ring)
     return Cause((", ".join(needed),))
 
 
@@ -390,7 +396,7 @@ def cycle_from(start: End, needs: Dict[End, List[Step]]) -> List[Step]:
 def assigned(place: Place) -> Cause:
     """Rule 22: what is assigned."""
     declared = place.unit.declared.get(place.texts[0]) if place.unit else None
-    return Cause((f"`{declared.name}` is declared by `{declared.sort}` at line {declared.line}",)) if declared else Cause()
+    return Cause((f"`{declared.name}` is declared by `{declared.sort}` at {place.name(declared.line)}",)) if declared else Cause()
 
 
 def out_of_range(place: Place) -> Cause:
@@ -420,7 +426,14 @@ def costly(place: Place) -> Cause:
             counts.pop()
         elif math.prod(counts) > most:
             most, most_line = math.prod(counts), placed.number
-    return Cause((f"line {most_line} is repeated {most:,} times in a step",)) if most_line else Cause()
+    return Cause((f"{place.name(most_line)} is repeated {most:,} times in a step",)) if most_line else Cause()
+
+
+def without_stop(place: Place) -> Cause:
+    """Rule 19: whether the text is a part of a model, which has its system in another file."""
+    nest = place.nest
+    has_system = nest.main.instances or nest.main.connections or nest.samples or len(nest.numbers) > 1
+    return Cause() if has_system else Cause(("the text has no instance and no other line of a system",), NO_SYSTEM)
 
 
 def no_ticks(place: Place) -> Cause:
@@ -444,4 +457,4 @@ def finest_resolution(place: Place) -> int:
 
 
 EXPLAINERS: Dict[int, Callable[[Place], Cause]] = {8: twice, 9: unknown, 10: unlike, 12: lacking, 13: connected_before}
-EXPLAINERS.update({11: out_of_range, 14: unequal, 15: cycle, 18: costly, 20: no_ticks, 22: assigned})
+EXPLAINERS.update({11: out_of_range, 14: unequal, 15: cycle, 18: costly, 19: without_stop, 20: no_ticks, 22: assigned})

@@ -1,32 +1,33 @@
 """The command ./explain."""
+import os
 import shlex
-from typing import Sequence
+from typing import Dict, Mapping, Sequence
 
 from ..documents import RULES, SOURCES, page
-from ..program import ACCEPTED, ask, ask_first_byte
+from ..errors import ProgramFailed, Refused, Unjoinable, refused
+from ..joining import join_texts, read_file
+from ..program import ACCEPTED, NO_PROGRAM, REFUSED, ask, ask_first_byte
 from ..repository import LONGEST_VERIFIED
+from ..sources import Source
 from ..streams import clean_name, note, read_at_most, write_output
-from .inputs import Input, read_kind
+from .inputs import Input, has_groups, read_kind
 from .notes import asked_for, counts_asked_for
-from .refusals import WITHOUT_FORM, advice, shown
+from .refusals import WITHOUT_FORM, shown
 
 # The statuses where a file can't be read, and where words have no form or what they ask for isn't there.
 NO_FILE = 1
 NO_FORM = 2
 
 
-def describe_refusal(name: str, text: bytes, line: int, rule: int) -> str:
-    """The lines on a refusal. The first has the form in which editors look for places."""
-    found = advice(text, line, rule)
-    lines = text.split(b"\n")
-    refused = shown(lines[found.line - 1]) if found.line and found.line <= len(lines) else ""
-    place = f":{found.line}" if found.line else ""
-    printed = [f"{name}{place}: rule {rule}: {found.title}"]
-    if found.line:
-        printed.append(f"{found.line:6} | {refused}".rstrip())
-    more = " and shows such lines, with what is right in their place" if rule in WITHOUT_FORM[:1] else ""
-    printed += [*found.details, f"cure: {found.cure}", f'more: ./explain {rule}, which is "Rule {rule}" of {RULES}{more}']
-    return "\n".join(printed)
+def describe_refusal(error: Refused, text: bytes) -> str:
+    """The lines on a refusal of a text that a file has. The first has the form in which editors look for places."""
+    first, *others = error.message.split("\n")
+    printed = [first]
+    if error.line:
+        lines = text.split(b"\n")
+        printed.append(f"{error.line:6} | {shown(lines[error.line - 1]) if error.line <= len(lines) else ''}".rstrip())
+    more = " and shows such lines, with what is right in their place" if error.rule in WITHOUT_FORM[:1] else ""
+    return "\n".join([*printed, *others, f'more: ./explain {error.rule}, which is "Rule {error.rule}" of {RULES}{more}'])
 
 
 def explain_file(path: str) -> int:
@@ -41,17 +42,43 @@ def explain_file(path: str) -> int:
     if not given.command:
         note(f"{name}: {given.accepted}")
         return NO_FORM
-    return explain_input(name, given)
+    return explain_input(given, Source(path, path), {path: given.text})
 
 
-def explain_input(name: str, given: Input) -> int:
+def explain_input(given: Input, source: Source, texts: Mapping[str, bytes]) -> int:
+    """Judges an input, and explains why it is refused; `texts` has those of the files that it comes from. Returns the status."""
     answer = (ask_first_byte if given.command == "resume" else ask)(given.command, given.text)
     if answer.line is not None and answer.rule is not None:
-        write_output(describe_refusal(name, given.text, answer.line, answer.rule))
+        error = refused(given.text, answer.line, answer.rule, "", source)
+        write_output(describe_refusal(error, texts.get(error.file or "", b"")))
         return answer.status
     if answer.status == ACCEPTED:
-        write_output(f"{name}: {given.accepted}")
+        write_output(f"{clean_name(source.name)}: {given.accepted}")
     return answer.status
+
+
+def explain_files(paths: Sequence[str]) -> int:
+    """Judges the files of one model together, and explains why a line of one is refused. Returns the status."""
+    texts: Dict[str, bytes] = {}
+    try:
+        for path in paths:
+            texts[path] = read_file(path)
+        joined = join_texts([(path, texts[path]) for path in paths])
+    except OSError as error:
+        note(f"{clean_name(error.filename)}: {error.strerror}")
+        return NO_FILE
+    except Refused as error:
+        write_output(describe_refusal(error, texts[error.file or ""]))
+        return REFUSED
+    except Unjoinable as error:
+        write_output(error.message)
+        return REFUSED
+    except ProgramFailed as error:
+        note(error.message)
+        return NO_PROGRAM if error.status is None else error.status
+    run = "./cosim flatten | ./cosim run" if has_groups(joined.text) else "./cosim run"
+    command = "flatten" if has_groups(joined.text) else "check"
+    return explain_input(Input(joined.text, command, f"accepted; run it by tools/join FILE .. | {run}"), joined.source, texts)
 
 
 def explain_number(kind: str, number: int) -> int:
@@ -76,5 +103,7 @@ def main(document: str, words: Sequence[str]) -> int:
         return ACCEPTED
     if len(words) == 1 and words[0] not in SOURCES and not words[0].startswith("-"):
         return explain_file(words[0])
+    if len(words) > 1 and any(map(os.path.exists, words)) and not any(word.startswith("-") for word in words):
+        return explain_files(words)
     note(document.strip())
     return NO_FORM

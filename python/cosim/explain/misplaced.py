@@ -2,6 +2,7 @@
 from typing import Optional, Sequence
 
 from ..lines import Placed, texts_of
+from ..sources import PLAIN, Source
 from .kinds import Cause
 
 # The cases that docs/RULES.md has a cure of its own for.
@@ -23,11 +24,11 @@ STEP_WORDS = ("if", "repeat", "accept")
 UNIT_WORDS = ("resolution", "param", "state", "local", "input", "event", "output", "max", "step")
 
 
-def misplaced(lines: Sequence[bytes], placed: Placed) -> Cause:
-    """Which block a line is in, and the case of its cure."""
+def misplaced(lines: Sequence[bytes], placed: Placed, source: Source = PLAIN) -> Cause:
+    """Which block a line is in, and the case of its cure. `source` says how lines are named."""
     case = case_of_block(placed)
-    details = [words for words in (describe_first(lines, placed) if case == SECOND else describe_block(lines, placed),) if words]
-    return Cause(tuple(details), case)
+    detail = describe_first(lines, placed, source) if case == SECOND else describe_block(lines, placed, source)
+    return Cause((detail,) if detail else (), case)
 
 
 def case_of_block(placed: Placed) -> Optional[str]:
@@ -54,12 +55,13 @@ def case_in_unit(placed: Placed) -> str:
     return SECOND if "unit" in placed.blocks else OF_UNIT
 
 
-def describe_block(lines: Sequence[bytes], placed: Placed) -> str:
+def describe_block(lines: Sequence[bytes], placed: Placed, source: Source) -> str:
     """The block that is open before a line, and the line that opens it."""
     if not placed.blocks:
         return ""
     word = placed.blocks[-1]
-    return f"the line is in the block of `{word}`" + (f", line {opened}" if (opened := opening_line(lines, placed)) else "")
+    opened = opening_line(lines, placed)
+    return f"the line is in the block of `{word}`" + (f", {source.lines(opened)}" if opened else "")
 
 
 def opening_line(lines: Sequence[bytes], placed: Placed) -> int:
@@ -76,10 +78,10 @@ def opening_line(lines: Sequence[bytes], placed: Placed) -> int:
     return 0
 
 
-def describe_first(lines: Sequence[bytes], placed: Placed) -> str:
+def describe_first(lines: Sequence[bytes], placed: Placed, source: Source) -> str:
     """The line that is the first of a sort."""
     for number in range(placed.number - 1, 0, -1):
         texts = texts_of(lines[number - 1])
         if texts[:1] == placed.tokens[:1]:
-            return f"line {number} is a `{texts[0]}` line too"
+            return f"{source.lines(number)} is a `{texts[0]}` line too"
     return ""

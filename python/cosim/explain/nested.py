@@ -8,6 +8,7 @@ import collections
 from typing import Dict, Iterator, NamedTuple, Optional, Sequence, Set, Tuple
 
 from ..nests import End, Flat, Instance, Link, Nest, Origin, Part, TooLarge, read_nest
+from ..sources import PLAIN, Source
 
 # The rules that are reported at a line of the flat text.
 OF_FLAT_TEXTS = range(8, 25)
@@ -26,11 +27,14 @@ class Guilty(NamedTuple):
     details: Tuple[str, ...] = ()
 
 
-def guilty(text: bytes, line: int, rule: int) -> Optional[Guilty]:
-    """The line of a text with groups that breaks a rule which is reported at another line; nothing where none can be named."""
+def guilty(text: bytes, line: int, rule: int, source: Source = PLAIN) -> Optional[Guilty]:
+    """The line of a text with groups that breaks a rule which is reported at another line; nothing where none can be named.
+
+    `source` says where the text comes from, and how lines of it are named.
+    """
     if rule not in OF_FLAT_TEXTS and rule not in OF_GROUPS:
         return None
-    nest = read_nest(text)
+    nest = read_nest(text, source)
     try:
         if rule in OF_FLAT_TEXTS:
             return guilty_of_flat(nest, line, rule)
@@ -56,20 +60,19 @@ def guilty_of_flat(nest: Nest, line: int, rule: int) -> Optional[Guilty]:
     origin = origins[line - 1]
     if rule == 8 and origin.flat.startswith("instance "):
         return second_of_a_name(flat, origin)
-    return Guilty(origin.line, describe_origin(origin))
+    return Guilty(origin.line, describe_origin(nest, origin))
 
 
-def describe_origin(origin: Origin) -> Tuple[str, ...]:
+def describe_origin(nest: Nest, origin: Origin) -> Tuple[str, ...]:
     """What the flat text has in place of a line with names of groups, and by way of which lines."""
     if not origin.ways:
         return ()
     flat = f"`{origin.flat}`" if origin.flat else "a line"
-    return (f"it is {flat} of the flat text, by way of {describe_ways(origin.ways)}",)
+    return (f"it is {flat} of the flat text, by way of {describe_ways(nest, origin.ways)}",)
 
 
-def describe_ways(lines: Sequence[int]) -> str:
-    shown = ", ".join(map(str, lines[:MOST_WAYS])) + (", .." if len(lines) > MOST_WAYS else "")
-    return f"line{'s' if len(lines) > 1 else ''} {shown}"
+def describe_ways(nest: Nest, lines: Sequence[int]) -> str:
+    return nest.source.lines(*lines[:MOST_WAYS]) + (", .." if len(lines) > MOST_WAYS else "")
 
 
 def second_of_a_name(flat: Flat, origin: Origin) -> Guilty:
@@ -78,7 +81,7 @@ def second_of_a_name(flat: Flat, origin: Origin) -> Guilty:
     first = next(other for other_name, _, other in flat.instances if other_name == name)
     ours, theirs = (*origin.ways, origin.line), (*first.ways, first.line)
     apart = next((place for place, (our, their) in enumerate(zip(ours, theirs)) if our != their), 0)
-    return Guilty(ours[apart], (f"the component `{name}` comes of line {theirs[apart]} too",))
+    return Guilty(ours[apart], (f"the component `{name}` comes of {flat.nest.source.lines(theirs[apart])} too",))
 
 
 def ill_named(nest: Nest, line: int) -> Optional[Guilty]:
@@ -89,7 +92,7 @@ def ill_named(nest: Nest, line: int) -> Optional[Guilty]:
     named = [(other.name, other.line) for other in nest.groups] + [(unit.name, unit.line) for unit in nest.units]
     same = next((other for name, other in named if name == group.name and other != line), None)
     if same:
-        return Guilty(line, (f"line {same} has the name `{group.name}` too",))
+        return Guilty(line, (f"{nest.source.lines(same)} has the name `{group.name}` too",))
     return Guilty(line, ("the group has no instance",))
 
 
@@ -115,7 +118,7 @@ def leads_back(nest: Nest, line: int) -> Optional[Guilty]:
         group, instance = reached[group.name]
         ways.append(instance.line)
     first, *others = reversed(ways)
-    return Guilty(first, (f"it leads back by way of {describe_ways(others)}",) if others else ())
+    return Guilty(first, (f"it leads back by way of {describe_ways(nest, others)}",) if others else ())
 
 
 def missing(nest: Nest, part: Part) -> Iterator[Guilty]:
@@ -134,7 +137,7 @@ def missing(nest: Nest, part: Part) -> Iterator[Guilty]:
         yield from missing_ends(nest, part, link)
     for instance in part.instances:
         if nest.group(instance.unit) and instance.settings:
-            yield Guilty(instance.settings[0][1], (f"`{instance.name}` is of a group, which has no parameters",))
+            yield Guilty(instance.settings[0].line, (f"`{instance.name}` is of a group, which has no parameters",))
 
 
 def missing_ends(nest: Nest, part: Part, link: Link) -> Iterator[Guilty]:
@@ -150,7 +153,8 @@ def guilty_of_end(nest: Nest, part: Part, line: int, end: End, sort: str) -> Gui
     """The line that names a port which isn't there, or the instance of it where that is of no group and no unit."""
     instance = part.instance(end[0])
     if instance and not nest.group(instance.unit) and not nest.unit(instance.unit):
-        return Guilty(instance.line, (f"`{instance.unit}` is neither a group nor a unit; line {line} uses a port of `{instance.name}`",))
+        uses = f"{nest.source.lines(line)} uses a port of `{instance.name}`"
+        return Guilty(instance.line, (f"`{instance.unit}` is neither a group nor a unit; {uses}",))
     return Guilty(line, (describe_missing(nest, part, end, sort),))
 
 

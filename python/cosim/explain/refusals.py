@@ -4,6 +4,7 @@ from typing import List, NamedTuple, Optional, Tuple
 from ..documents import RULES, read_titles, without_links
 from ..grammar import fault_at
 from ..lines import IN_GROUP, Placed, placed_lines, split_lines, texts_of, tokens_of
+from ..sources import PLAIN, Source
 from ..streams import escaped
 from . import cases, causes, forms, misplaced, nested, positions
 from .inputs import SAVED, has_groups
@@ -37,12 +38,12 @@ class Advice(NamedTuple):
     details: Tuple[str, ...] = ()
 
 
-def advice(text: bytes, line: int, rule: int) -> Advice:
+def advice(text: bytes, line: int, rule: int, source: Source = PLAIN) -> Advice:
     """Explains a refusal, by the documents and the text alone, but for rule 33, which asks the program.
 
     `text` is the text that was refused, as the command read it: a model, one with groups, a saved text, or a table. `line`
     and `rule` are those of the note `cosim: line L: rule R`. Of a text with groups the line may be one of the flat text, as
-    `flatten` reports it.
+    `flatten` reports it. `source` says where the text comes from, and how the details name its lines.
     """
     entry = read_titles()[rule]
     title, cure = (without_links(entry[column], RULES) for column in ("what is wrong", "cure"))
@@ -51,27 +52,27 @@ def advice(text: bytes, line: int, rule: int) -> Advice:
     described: List[str] = []
     found = line
     if has_groups(text) and not SAVED.match(text):
-        guilty = nested.guilty(text, line, rule)
+        guilty = nested.guilty(text, line, rule, source)
         if guilty:
             found, described = guilty.line, [*guilty.details]
         elif rule in nested.OF_FLAT_TEXTS:
             return Advice(None, rule, title, cure, (f"here: it is line {line} of the flat text",))
     if rule == 26:
         found = cases.misspelt_main(split_lines(text)) or found
-    cause, on_form = cause_of(text, found, rule)
+    cause, on_form = cause_of(text, found, rule, source)
     details = (*(f"here: {words}" for words in (*described, *cause.details)), *on_form)
     shortened = tuple(at_a_glance(detail, LONGEST_DETAIL) for detail in details)
     return Advice(found, rule, title, (cause.case and cases.cure_of(rule, cause.case)) or cure, shortened)
 
 
-def cause_of(text: bytes, line: int, rule: int) -> Tuple[Cause, List[str]]:
+def cause_of(text: bytes, line: int, rule: int, source: Source) -> Tuple[Cause, List[str]]:
     """The cause of a refusal, and the lines of advice on the form of a line without one."""
     lines = split_lines(text)
     placed = placed_at(text, line) if rule in OF_PLACES else None
     if placed is None:
-        return causes.cause_of(without_position(text), line, rule), []
+        return causes.cause_of(without_position(text), line, rule, source), []
     if rule == 5:
-        return misplaced.misplaced(lines, placed), []
+        return misplaced.misplaced(lines, placed, source), []
     case = cases.case_of(lines, placed, rule)
     return Cause(case=case), details_of_form(lines, placed, rule, case)
 

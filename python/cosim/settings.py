@@ -1,0 +1,59 @@
+"""What is set in a canonical text, and what the names of settings mean."""
+import difflib
+from typing import Iterable, Iterator, List, Tuple
+
+from .errors import UnfitValue
+from .nests import Nest, Part
+from .values import Seconds, Value, exact, seconds_of, value_of_word, word_of
+
+# The most decimals of a second.
+FINEST = 9
+
+
+def paths_of(nest: Nest, part: Part, path: Tuple[str, ...]) -> Iterator[Tuple[str, ...]]:
+    """The paths of the components of a part, depth first."""
+    for instance in part.instances:
+        inner = (*path, instance.name)
+        group = nest.group(instance.unit)
+        if group:
+            yield from paths_of(nest, group, inner)
+        else:
+            yield inner
+
+
+def set_in_instance(lines: List[bytes], instance: str, parameter: str, literal: str) -> None:
+    """Sets a parameter in the lines of an instance of a canonical text."""
+    start = f"instance {instance}:".encode()
+    place = next(number for number, line in enumerate(lines) if line.startswith(start)) + 1
+    setting = f"{parameter}=".encode()
+    while lines[place] != b"end" and not lines[place].startswith(setting):
+        place += 1
+    lines[place : place + (lines[place] != b"end")] = [setting + literal.encode()]
+
+
+def set_in_unit(lines: List[bytes], unit: str, parameter: str, type_name: str, literal: str) -> None:
+    """Sets a parameter in the lines of a unit of a canonical text."""
+    first = lines.index(f"unit {unit}".encode())
+    start = f"param {parameter}:{type_name}=".encode()
+    place = next(number for number in range(first, len(lines)) if lines[number].startswith(start))
+    lines[place] = start + literal.encode()
+
+
+def literal_of_stop(seconds: Seconds) -> str:
+    """A time in seconds as a `stop` line has it. UnfitValue where it has too many decimals."""
+    scaled = seconds_of(seconds, "stop") * 10**FINEST
+    if scaled.denominator != 1:
+        raise UnfitValue(f"stop: {seconds} has more than {FINEST} decimals")
+    return f"{exact(scaled.numerator, FINEST):f}".rstrip("0").rstrip(".")
+
+
+def value_of_literal(literal: str, type_name: str, what: str) -> Value:
+    """The value of a literal, with the decimals of its type."""
+    return value_of_word(word_of(literal, type_name, what), type_name)
+
+
+def nearest(name: str, names: Iterable[str]) -> str:
+    """The names that are most like one, or all of a few, as a message has them."""
+    known = list(names)
+    near = difflib.get_close_matches(name, known, 3) or known[:8]
+    return f"; there are {', '.join(near)}" if near else ""
