@@ -1,4 +1,4 @@
-"""Models, traces and sweeps of cosim, over the program that is proved; and what the tools around the program share.
+"""Models, traces, reports and sweeps of cosim, over the program that is proved; and what the tools around the program share.
 
     model = cosim.Model.read("heater.cosim").set("plate.cooling", "0.60")
     trace = model.run().require_completed()
@@ -9,6 +9,7 @@ docs/PYTHON.md of the repository is a tutorial and the reference.
 from .errors import CosimError, InexactFloat, NoMemory, NoProgram, ProgramFailed, Refused, UnfitValue, UnknownName
 from .models import Model, Saved, Verdict
 from .outcomes import Fault, Outcome, RowBudgetSpent, RunEnded, StepRefused, ZeroBudgetSpent
+from .reports import report
 from .sweeps import Sweep, SweepRow, sweep
 from .traces import Column, Difference, Row, Trace
 
@@ -36,5 +37,6 @@ __all__ = [
     "UnknownName",
     "Verdict",
     "ZeroBudgetSpent",
+    "report",
     "sweep",
 ]

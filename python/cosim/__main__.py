@@ -1,32 +1,52 @@
-"""Draws models from the command line.
+"""Draws models and reports on them from the command line.
 
     python -m cosim plot MODEL -o FILE [--columns NAME ..] [--until SECONDS]
         runs a model, and draws its trace. The end of FILE says the format: .svg, .png or .pdf
 
+    python -m cosim report MODEL -o FILE [--columns NAME ..] [--until SECONDS] [--trace TRACE] [--against OTHER]
+                           [--tolerance TOLERANCE ..]
+        writes a page about a model and its trace into FILE, whose name ends in .html. With --trace the rows are those of a
+        file, and else the model is run. OTHER is a trace in a file, or another model, which is run; the page lists where the
+        two differ. A TOLERANCE is a number for all columns, or NAME=NUMBER for one
+
 MODEL is a text of a model, with groups or without. The status is that of `cosim run`: 0 where the run came to its stop, and 6 to
 9 where it ended early, with the program's note; then the rows up to there are drawn. It is 1 where a file can't be read, 2 where
-the words have no form, 5 where FILE can't be written, and 69 where the program or matplotlib is missing.
+the words have no form, 5 where FILE can't be written, and 69 where the program or a package is missing. Of two runs it is the
+status of the first that ended early. A difference changes no status.
 """
 import argparse
 import os
 import sys
-import tempfile
-from typing import Any, Dict, Sequence, Tuple
+from typing import Any, Callable, Dict, List, NamedTuple, Optional, Sequence, Tuple, Union
 
 from .errors import CosimError, UnfitValue, UnknownName
+from .files import write_at_once
 from .models import Model
 from .outcomes import Outcome
 from .program import ACCEPTED, NO_PROGRAM
+from .reports import report
+from .running import Table, up_to
 from .streams import WRITE_FAULT, clean_name, note, start
+from .traces import TIME, Trace
+from .values import seconds_of
 
 # The statuses where a file can't be read, and where the words have no form.
 NO_FILE = 1
 NO_FORM = 2
 
+# The ends of names that a picture and a page may have.
 FORMATS = (".svg", ".png", ".pdf")
+PAGES = (".html",)
 
 # Leaves the time of the making out of a picture.
 METADATA: Dict[str, Dict[str, Any]] = {".svg": {"Date": None}, ".png": {}, ".pdf": {"CreationDate": None}}
+
+
+class Made(NamedTuple):
+    """What a command made: a function that writes it into a file, and how the runs ended."""
+
+    write: Callable[[Any], object]
+    outcomes: List[Outcome]
 
 
 def read_words(words: Sequence[str]) -> argparse.Namespace:
@@ -34,50 +54,85 @@ def read_words(words: Sequence[str]) -> argparse.Namespace:
     parser = argparse.ArgumentParser(prog="python -m cosim", description="Draws models of cosim.", allow_abbrev=False)
     commands = parser.add_subparsers(dest="command", required=True, metavar="COMMAND")
     plot = commands.add_parser("plot", help="draws the trace of a model", allow_abbrev=False)
-    plot.add_argument("model", metavar="MODEL", help="the file of the model")
-    plot.add_argument("-o", dest="output", metavar="FILE", required=True, help=f"the picture, whose name ends in {', '.join(FORMATS)}")
-    plot.add_argument("--columns", nargs="+", metavar="NAME", help="the columns that are drawn, as plate.degrees; else all")
-    plot.add_argument("--until", metavar="SECONDS", help="draws no rows after this time")
+    plot.set_defaults(make=make_plot, what="picture", ends=FORMATS)
+    page = commands.add_parser("report", help="writes a page about a model and its trace", allow_abbrev=False)
+    page.set_defaults(make=make_report, what="page", ends=PAGES)
+    for command in (plot, page):
+        what, ends = command.get_default("what"), command.get_default("ends")
+        command.add_argument("model", metavar="MODEL", help="the file of the model")
+        command.add_argument("-o", dest="output", metavar="FILE", required=True, help=f"the {what}, whose name ends in {', '.join(ends)}")
+        command.add_argument("--columns", nargs="+", metavar="NAME", help="the columns that are drawn, as plate.degrees; else all")
+        command.add_argument("--until", metavar="SECONDS", help="takes no rows after this time")
+    page.add_argument("--trace", metavar="TRACE", help="a file with rows of the model, which then isn't run")
+    page.add_argument("--against", metavar="OTHER", help="a file with other rows, or another model, which is compared")
+    page.add_argument("--tolerance", nargs="+", metavar="TOLERANCE", help="how far numbers may be apart: 0.5, or plate.degrees=0.5 for one column")
     given = parser.parse_args(list(words))
-    if os.path.splitext(given.output)[1] not in FORMATS:
-        plot.error(f"the name of the picture ends in {', '.join(FORMATS)}, and not as {clean_name(given.output)}")
+    command = plot if given.command == "plot" else page
+    if os.path.splitext(given.output)[1] not in given.ends:
+        command.error(f"the name of the {given.what} ends in {', '.join(given.ends)}, and not as {clean_name(given.output)}")
+    if given.command == "report" and given.tolerance and not given.against:
+        command.error("--tolerance requires --against")
     return given
 
 
-def draw(given: argparse.Namespace) -> Tuple[Any, Outcome]:
-    """The figure of a model's trace, and how the run ended."""
+def make_plot(given: argparse.Namespace) -> Made:
+    """The picture of a model's trace."""
     trace = Model.read(given.model).run(until=given.until)
-    return trace.plot(given.columns), trace.outcome
+    figure, end = trace.plot(given.columns), os.path.splitext(given.output)[1]
+    return Made(lambda file: figure.savefig(file, format=end[1:], metadata=METADATA[end]), [trace.outcome])
 
 
-def write_figure(figure: Any, path: str) -> None:
-    """Writes a picture at once: no reader sees a part of it. OSError where it can't be written."""
-    end = os.path.splitext(path)[1]
-    real = os.path.realpath(path)
-    if os.path.exists(real) and not os.path.isfile(real):
-        raise OSError(0, "it isn't a file")
-    with tempfile.NamedTemporaryFile(dir=os.path.dirname(real), prefix=".cosim-", suffix=end, delete=False) as file:
-        try:
-            figure.savefig(file, format=end[1:], metadata=METADATA[end])
-            file.flush()
-            mask = os.umask(0)
-            os.umask(mask)
-            os.chmod(file.name, 0o666 & ~mask)
-            os.replace(file.name, real)
-        except BaseException:
-            os.remove(file.name)
-            raise
+def make_report(given: argparse.Namespace) -> Made:
+    """The page about a model's trace."""
+    model = Model.read(given.model)
+    trace = model.run(until=given.until) if given.trace is None else read_rows(model, given.trace, given.until)
+    other = None if given.against is None else read_other(model, given.against, given.until)
+    labels = labels_of(given.trace or given.model, given.against or "")
+    page = report(model, trace, other, tolerance_of(given.tolerance or []), given.columns, labels=labels)
+    return Made(lambda file: file.write(page), [each.outcome for each in (trace, other) if each is not None])
+
+
+def labels_of(mine: str, other: str) -> Tuple[str, str]:
+    """What a page calls two traces: the names of their files, with the folders where the names are the same."""
+    names = os.path.basename(mine), os.path.basename(other)
+    return names if names[0] != names[1] else (mine, other)
+
+
+def read_rows(model: Model, path: str, until: Optional[str]) -> Trace:
+    """The trace of a model that a file has, up to a time."""
+    trace = model.read_trace(path)
+    if until is None:
+        return trace
+    table = up_to(trace.table, seconds_of(until, "until"), Table(model.system, True), True)
+    return Trace(table, model.system.columns, trace.resolution, trace.outcome)
+
+
+def read_other(model: Model, path: str, until: Optional[str]) -> Trace:
+    """The trace that is compared: a table begins by the word `time`, and every other file is a model."""
+    with open(path, "rb") as file:
+        is_table = file.read(len(TIME) + 1) == f"{TIME},".encode()
+    return read_rows(model, path, until) if is_table else Model.read(path).run(until=until)
+
+
+def tolerance_of(words: Sequence[str]) -> Union[str, Dict[str, str]]:
+    """The tolerance for all columns, or those by the name of a column."""
+    named = dict(word.split("=", 1) for word in words if "=" in word)
+    if named and len(named) == len(words):
+        return named
+    if len(words) > 1:
+        raise UnfitValue(f"tolerance: {' '.join(words)}: write one number, or NAME=NUMBER for each column once")
+    return words[0] if words else "0"
 
 
 def main(words: Sequence[str]) -> int:
     given = read_words(words)
     try:
-        figure, outcome = draw(given)
+        made: Made = given.make(given)
     except OSError as error:
-        note(f"{clean_name(given.model)}: {error.strerror}")
+        note(f"{clean_name(error.filename or given.model)}: {error.strerror}")
         return NO_FILE
     except ImportError as error:
-        note(f"a plot requires the Python package {error.name}, which isn't there")
+        note(f"a {given.command} requires the Python package {error.name}, which isn't there")
         return NO_PROGRAM
     except (UnknownName, UnfitValue) as error:
         note(f"cosim: {error}")
@@ -86,13 +141,14 @@ def main(words: Sequence[str]) -> int:
         note(str(error))
         return error.status if error.status is not None else NO_PROGRAM
     try:
-        write_figure(figure, given.output)
+        write_at_once(given.output, made.write)
     except OSError as error:
         note(f"{clean_name(given.output)}: {error.strerror}")
         return WRITE_FAULT
-    if outcome.note:
+    early = [outcome for outcome in made.outcomes if outcome.note]
+    for outcome in early:
         note(outcome.note)
-    return outcome.status if outcome.status is not None else ACCEPTED
+    return next((outcome.status for outcome in early if outcome.status), ACCEPTED)
 
 
 if __name__ == "__main__":

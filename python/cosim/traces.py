@@ -6,7 +6,7 @@ from typing import TYPE_CHECKING, Any, Dict, Iterator, List, Mapping, Optional, 
 from .canonical import Port
 from .errors import UnfitValue, UnknownName
 from .outcomes import EXCEPTIONS, UNKNOWN, Outcome
-from .values import Given, Value, fraction_of, ticks_of, values_of_fields
+from .values import Given, Value, form_of, fraction_of, ticks_of, values_of_fields
 
 if TYPE_CHECKING:
     import pandas
@@ -88,11 +88,10 @@ class Trace:
             if line.count(",") != header.count(","):
                 raise UnfitValue(f"{name}:{number}: it has {line.count(',') + 1} fields, and the header {header.count(',') + 1}")
         trace = cls(table, ports, resolution, Outcome(UNKNOWN))
-        try:
-            for row in trace:
-                assert row
-        except (ValueError, KeyError, ArithmeticError):
-            raise UnfitValue(f"{name}: a value isn't written as a trace has it") from None
+        forms = [form_of(f"Fixed {resolution}"), form_of("Fixed 0"), *(form_of(port.type, port.is_event) for port in ports)]
+        for number, record in enumerate(trace.records, 2):
+            if not all(form.fullmatch(field) for form, field in zip(forms, record)):
+                raise UnfitValue(f"{name}:{number}: a value isn't written as a trace has it")
         return trace
 
     @property
@@ -214,24 +213,28 @@ def tolerance_of(given: Given, what: str) -> Fraction:
 
 def differences(mine: Trace, other: Trace, allowed: Mapping[str, Fraction]) -> Iterator[Difference]:
     """The differences at each point of either trace."""
-    rows, others = places_of(mine), places_of(other)
-    for time, index in sorted(rows.keys() | others.keys()):
-        row, other_row = rows.get((time, index)), others.get((time, index))
+    resolution = max(mine.resolution, other.resolution)
+    rows, others = places_of(mine, resolution), places_of(other, resolution)
+    columns = [(name, mine[name], other[name], tolerance) for name, tolerance in allowed.items()]
+    for ticks, index in sorted(rows.keys() | others.keys()):
+        row, other_row = rows.get((ticks, index)), others.get((ticks, index))
+        time = Fraction(ticks, 10**resolution)
         if row is None or other_row is None:
             yield Difference(time, index, TIME, None if row is None else time, None if other_row is None else time)
             continue
-        for name, tolerance in allowed.items():
-            value, other_value = mine[name][row], other[name][other_row]
+        for name, values, other_values, tolerance in columns:
+            value, other_value = values[row], other_values[other_row]
             if is_apart(value, other_value, tolerance):
                 yield Difference(time, index, name, value, other_value)
 
 
-def places_of(trace: Trace) -> Dict[Tuple[Fraction, int], int]:
-    """The number of the row of each point."""
-    return {point: number for number, point in enumerate(zip(trace.time, trace.index))}
+def places_of(trace: Trace, resolution: int) -> Dict[Point, int]:
+    """The number of the row of each point, whose time is in 10^-resolution seconds."""
+    scale = 10 ** (resolution - trace.resolution)
+    return {(ticks * scale, index): number for number, (ticks, index) in enumerate(trace.points)}
 
 
 def is_apart(value: Optional[Value], other: Optional[Value], tolerance: Fraction) -> bool:
     if value is None or other is None or isinstance(value, bool) or isinstance(other, bool):
         return value is not other
-    return abs(Fraction(value) - Fraction(other)) > tolerance
+    return value != other and abs(Fraction(value) - Fraction(other)) > tolerance

@@ -1,4 +1,5 @@
 """Values of the types of the language: exact ones of Python, and the literals and words that they are."""
+import re
 from decimal import Decimal
 from fractions import Fraction
 from numbers import Integral
@@ -46,6 +47,13 @@ def values_of_fields(fields: List[str], type_name: str) -> List[Optional[Value]]
     return [Decimal(field) if field else None for field in fields]
 
 
+def form_of(type_name: str, is_event: bool = False) -> "re.Pattern[str]":
+    """How a trace writes the values of a type. An event may be absent."""
+    decimals = decimals_of(type_name)
+    form = "true|false" if type_name == "Bool" else r"-?(?:0|[1-9][0-9]*)" + (rf"\.[0-9]{{{decimals}}}" if decimals else "")
+    return re.compile(f"(?:{form}){'?' if is_event else ''}")
+
+
 def fraction_of(given: Given, what: str) -> Fraction:
     """The number that a value is, exactly."""
     if isinstance(given, float):
@@ -81,12 +89,16 @@ def word_of(given: Given, type_name: str, what: str) -> int:
     return scaled.numerator
 
 
-def literal_of_word(word: int, type_name: str) -> str:
-    """The literal of a word, as a trace and a canonical text have it."""
-    value = value_of_word(word, type_name)
+def literal_of_value(value: Value) -> str:
+    """The literal of a value, as a trace has it."""
     if isinstance(value, bool):
         return str(value).lower()
     return f"{value:f}" if isinstance(value, Decimal) else str(value)
+
+
+def literal_of_word(word: int, type_name: str) -> str:
+    """The literal of a word, as a trace and a canonical text have it."""
+    return literal_of_value(value_of_word(word, type_name))
 
 
 def literal_of(given: Given, type_name: str, what: str) -> str:

@@ -1,10 +1,14 @@
 """What the tests of the package share. They ask the program that the variable COSIM of the environment names."""
 import os
 import pathlib
+from typing import Iterator
 
 import pytest
 
 import cosim
+
+pytest.register_assert_rewrite("browser")
+from browser import Browser
 
 REPOSITORY = pathlib.Path(__file__).resolve().parents[2]
 
@@ -34,3 +38,11 @@ def heater(examples: pathlib.Path) -> cosim.Model:
 @pytest.fixture
 def groups(examples: pathlib.Path) -> cosim.Model:
     return cosim.Model.read(examples / "groups" / "bus.cosim")
+
+
+@pytest.fixture(scope="session")
+def browser(tmp_path_factory: pytest.TempPathFactory) -> Iterator[Browser]:
+    """One browser for all tests. They are skipped where there is none."""
+    begun = Browser(tmp_path_factory.mktemp("browser"))
+    yield begun
+    begun.driver.quit()

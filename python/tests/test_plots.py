@@ -1,14 +1,13 @@
 """Plots: what is drawn, by the numbers that matplotlib got."""
 import os
 import pathlib
-import subprocess
-import sys
 from typing import Any, List
 
 import pytest
 
 import cosim
 from cosim.plots import bands
+from commands import call
 from texts import COOLER, DIVIDES, EVENTS, STUCK
 
 pytest.importorskip("matplotlib")
@@ -58,13 +57,6 @@ def test_unfit_names() -> None:
         trace.plot("cooler.cold")
     with pytest.raises(cosim.UnfitValue, match="0 columns can't be drawn"):
         trace.plot([])
-
-
-def call(*words: str) -> "subprocess.CompletedProcess[str]":
-    """Calls the command of the package that is tested."""
-    path = os.pathsep.join([os.path.dirname(os.path.dirname(cosim.__file__)), os.environ.get("PYTHONPATH", "")])
-    environment = {**os.environ, "PYTHONPATH": path}
-    return subprocess.run([sys.executable, "-m", "cosim", *words], env=environment, capture_output=True, text=True, check=False)
 
 
 @pytest.mark.parametrize("end, begins", [("svg", b"<?xml"), ("png", b"\x89PNG"), ("pdf", b"%PDF")])

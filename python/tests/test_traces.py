@@ -120,8 +120,12 @@ def test_to_csv(counter: cosim.Model, examples: pathlib.Path, tmp_path: pathlib.
         ("", "the first line isn't time,index,a.y"),
         ("time,index,b.y\n0,0,0\n", "the first line isn't time,index,a.y"),
         ("time,index,a.y\n0,0\n", "trace.csv:2: it has 2 fields, and the header 3"),
-        ("time,index,a.y\n0,0,x\n", "a value isn't written as a trace has it"),
-        ("time,index,a.y\nx,0,1\n", "a value isn't written as a trace has it"),
+        ("time,index,a.y\n0,0,x\n", "trace.csv:2: a value isn't written as a trace has it"),
+        ("time,index,a.y\n0,0,1\nx,0,1\n", "trace.csv:3: a value isn't written as a trace has it"),
+        ("time,index,a.y\n0,x,1\n", "trace.csv:2: a value isn't written as a trace has it"),
+        ("time,index,a.y\n0,0,1_0\n", "trace.csv:2: a value isn't written as a trace has it"),
+        ("time,index,a.y\n0,0,\n", "trace.csv:2: a value isn't written as a trace has it"),
+        ("time,index,a.y\n0,0,01\n", "trace.csv:2: a value isn't written as a trace has it"),
     ],
 )
 def test_tables_that_are_no_trace(counter: cosim.Model, tmp_path: pathlib.Path, table: str, message: str) -> None:

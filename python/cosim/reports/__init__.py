@@ -1,0 +1,38 @@
+"""Reports: a model and its trace as one page that needs no network."""
+from typing import Mapping, Optional, Sequence, Tuple, Union
+
+from ..errors import UnfitValue
+from ..files import write_at_once
+from ..models import Model
+from ..traces import Trace
+from ..values import Given
+
+LABELS = ("mine", "other")
+
+
+def report(
+    model: Model,
+    trace: Optional[Trace] = None,
+    other: Optional[Trace] = None,
+    tolerance: Union[Given, Mapping[str, Given]] = 0,
+    names: Optional[Sequence[str]] = None,
+    path: Optional[str] = None,
+    labels: Tuple[str, str] = LABELS,
+) -> bytes:
+    """The page of a model and its trace, as bytes of HTML, which are written to a file too, whole or not at all, where one is
+    named.
+
+    Without `trace` the model is run. `names` are the columns that the page draws at first: without them all, up to 64. Where
+    `other` is given the page lists what `trace.diff(other, tolerance)` lists, and calls the two traces by `labels`.
+
+    The page has plotly.js in itself, and requires a browser with JavaScript. ImportError where the package plotly isn't there,
+    UnknownName where there is no such column or the two traces have other columns, and UnfitValue where a tolerance is none.
+    """
+    from .page import page_of
+
+    if isinstance(names, str):
+        raise UnfitValue(f"names: {names!r} is one name; write [{names!r}]")
+    page = page_of(model, model.run() if trace is None else trace, other, tolerance, names, labels)
+    if path is not None:
+        write_at_once(path, lambda file: file.write(page))
+    return page
