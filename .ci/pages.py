@@ -56,7 +56,7 @@ LINES = (
     (f"{LONG}.\n{LONG}.\n{LONG}.\nthe end of it", "a paragraph of 604 characters: split it, at most 600 are allowed"),
     ("It puts `x` there.", '"puts" has a sense of its own here: write prints, writes or adds'),
     ("The reader is told of it.", '"is told" has a sense of its own here: write is reported, is stated or receives'),
-    ("- It stands in a file.", '"stands in" has a sense of its own here: write is in, depends on, follows or means'),
+    ("- It stands in a file.", '"stands in" has a sense of its own here: write is in, depends on or follows'),
     ("| Besides | it |", '"Besides" has a sense of its own here: write also'),
     ("[no file](NOWHERE.md)", "the link NOWHERE.md leads to no file: name one that exists"),
     ("[no heading](OTHER.md#thrice)", "docs/OTHER.md has no heading with the anchor #thrice: link to one that it has"),

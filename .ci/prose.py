@@ -40,7 +40,7 @@ COMMON_WORDS = (
     (r"puts?\b(?! together)", "prints, writes or adds"),
     (r"(?:is|are|was|were) told\b", "is reported, is stated or receives"),
     (r"tells? (?:of|that|whether)\b", "reports or says"),
-    (r"stands? (?:in|on|there|behind|at|for)\b", "is in, depends on, follows or means"),
+    (r"stands? (?:in|on|there|behind|at)\b", "is in, depends on or follows"),
     (r"goes by\b", "uses or follows"),
     (r"a front\b", "a prefix"),
     (r"wants?\b", "needs or requires"),
