@@ -105,13 +105,13 @@ def read_mistakes():
 
 
 def cured(text, cure):
-    """A text with its cure: each part names a line and what it becomes, what comes behind it, or that it goes."""
+    """A text with its cure: each part names a line and what it becomes, what comes after it, or that it is removed."""
     lines = text.decode().splitlines(True)
     for part in reversed(cure.split("; ")):
-        place, number = re.match(r"(line|behind line|without line) (\d+)", part).groups()
+        place, number = re.match(r"(line|after line|without line) (\d+)", part).groups()
         new = [line + "\n" for line in re.findall(r"`([^`]*)`", part)]
         number = int(number)
-        first = number if place == "behind line" else number - 1
+        first = number if place == "after line" else number - 1
         lines[first:number] = new
     return "".join(lines).encode()
 

@@ -81,7 +81,7 @@ def test_the_command_with_mistakes(examples: pathlib.Path, tmp_path: pathlib.Pat
     mistake = str(examples / "mistakes" / "two-stops.cosim")
     cases = [
         (("plot", "/nowhere.cosim", "-o", picture), 1, "/nowhere.cosim: No such file or directory\n"),
-        (("plot", mistake, "-o", picture), 3, f"{mistake}:8: rule 5: a line may not stand there\n"),
+        (("plot", mistake, "-o", picture), 3, f"{mistake}:8: rule 5: a line isn't allowed there\n"),
         (("plot", heater, "-o", picture, "--columns", "a.b"), 2, "cosim: there is no column a.b"),
         (("plot", heater, "-o", picture, "--until", "-1"), 2, ""),
         (("plot", heater, "-o", picture, "--until", "x"), 2, "cosim: until: 'x' is no number\n"),

@@ -47,7 +47,7 @@ def misspelt_main(lines: Sequence[bytes]) -> int:
 
 
 def case_in_groups(lines: Sequence[bytes], placed: Placed) -> str:
-    """The case of a line that may not stand in its part."""
+    """The case of a line that isn't allowed in its part."""
     first = placed.tokens[0] if placed.tokens else ""
     if placed.number == misspelt_main(lines):
         return MAIN_IN_OTHER_FORM
