@@ -5,10 +5,10 @@ use Rattle.sub_flat.specs.declared.fault.Unflat.TheVariants.{TooLarge}
 use Rattle.sub_flat.proofs.PutLaws.{one_each, put_failed}
 use Rattle.sub_flat.proofs.flat.put_to.Goals as goal
 
-pub returns-then-len-ge-MOST_WIRES : goal.returns-then-len-ge-MOST_WIRES
-returns-then-len-ge-MOST_WIRES c =
+pub returns-then-len-ge-MOST_CONNECTIONS : goal.returns-then-len-ge-MOST_CONNECTIONS
+returns-then-len-ge-MOST_CONNECTIONS c =
     let one = wire_between c.args.from.now in
-    let most = c.if-len-ge-MOST_WIRES.true in
+    let most = c.if-len-ge-MOST_CONNECTIONS.true in
     let long = c.len.ensures in
     let over : 2048 < length c.loop-one.wires + length (one c.one-item.result ∷ []) = omega (arith, most, long) in
     subst (λ all. 2048 < length c.args.wires.now + length all) (sym (one_each one c.args.to.now))
