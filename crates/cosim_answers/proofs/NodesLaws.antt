@@ -95,8 +95,6 @@ nodes_answer_systems asked = record {
 
 -- ---- The result of the command
 
-}
-
 abbrev Owes : Splitting → List ℕ → Stream → Stream → Result Served Stopped → Type 0
 Owes asked text = Serves (Answers (Nodes asked) text)
 

@@ -1,6 +1,2 @@
-pub mod WorkedEvents
-pub mod WorkedGroups
 pub mod WorkedNests
-pub mod WorkedSaved
-pub mod WorkedTables
 pub mod WorkedVerdicts
