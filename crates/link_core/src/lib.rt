@@ -24,6 +24,6 @@ mod words;
 mod working;
 
 pub use link_laws::{Asked, Fact, PairEvent, Said, Seen, Taken};
-pub use node::{Node, Row};
+pub use node::{Node, NodeRow};
 pub use owners::by_turns;
 pub use pair::{Pair, deliver};

@@ -27,7 +27,7 @@ use unit_tree::Ending;
 
 /// A row of the trace: a point, and the words of all outputs there by their places.
 #[derive(Clone, Copy, Debug)]
-pub struct Row<'a> {
+pub struct NodeRow<'a> {
     pub point: Point,
     pub words: &'a [i64],
 }
@@ -241,14 +241,14 @@ impl Node {
     }
 
     /// Returns the row that it came to last since it started, or at which it ended. There is none where an output has a fault.
-    pub fn row(&self) -> Option<Row<'_>>
+    pub fn row(&self) -> Option<NodeRow<'_>>
         ensures some { IfSome result (λ row. self.now.progress.row ≡ Some (record { point = row.point; words = row.words.now })) }
         ensures none { IfNone result (self.now.progress.row ≡ None) }
     {
         if !self.course.shown.there {
             return None;
         }
-        Some(Row {
+        Some(NodeRow {
             point: self.course.shown.point,
             words: &self.course.shown.words,
         })

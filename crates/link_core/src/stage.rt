@@ -9,6 +9,7 @@ ghost use Rattle.unit_tree.specs.Negotiation.{is_held, limit_told, proposal_of, 
 ghost use Rattle.unit_tree.specs.Ports.{first_some};
 ghost use Rattle.unit_tree.specs.Routes.{routes_of};
 ghost use Rattle.unit_tree.specs.Successor.{first_told, max_end_of, step_end_of, redo_end_of};
+ghost use Rattle.model_rules.specs.Limits.{instance_limit};
 
 use crate::notes::Notes;
 use link_laws::{Asked, Said, Seen, Stage};
@@ -69,7 +70,7 @@ fn max_end(instance: u32, asked: Option<Asked>) -> Option<Ending>
 
 /// Returns how a fault of a `max` ends the run, if there is one: the first by its instance.
 fn max_fault(limits: &[Option<Asked>]) -> Option<Ending>
-    requires { length limits.now ≤ 64 }
+    requires { length limits.now ≤ instance_limit }
     ensures { result ≡ first_told max_end_of (map max_by limits.now) }
 {
     for instance in 0..limits.len() {

@@ -68,7 +68,7 @@ found_is P (x ∷ xs) (suc place) one are is = found_is P xs place one are.1 is
 
 -- ---- From a place to the next
 
-goes_after : (found : Option Ending) (to next : Position) → ends_or found to ≡ goes next → to ≡ next
+pub goes_after : (found : Option Ending) (to next : Position) → ends_or found to ≡ goes next → to ≡ next
 goes_after None to next is = cc
 goes_after (Some ending) to next is = absurd (cc)
 
@@ -112,7 +112,7 @@ module _ (run : Composition) (rule : Rule) (right : IsRightRule run rule) where
     made_of node keeps = subst (λ at. IsMade run keeps.stand (rule.make me at node.known)) (sym keeps.stands.part)
         (right.makes me keeps.stand node.known keeps.stands.place keeps.agrees)
 
-    move_of : (node : Progress) (keeps : KeepsTo run rule me node)
+    pub move_of : (node : Progress) (keeps : KeepsTo run rule me node)
         → IsRightMove run rule me keeps.stand (making_of rule me node).known (rule.move me node.at (making_of rule me node).known)
     move_of node keeps =
         subst (λ at. IsRightMove run rule me keeps.stand (making_of rule me node).known (rule.move me at (making_of rule me node).known))

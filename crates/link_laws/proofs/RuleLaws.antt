@@ -44,7 +44,7 @@ use Rattle.list_laws.proofs.Lists.{each_append}
 -- ---- Lists
 
 -- The place of each is that of its partner.
-abbrev IsAtPlace : {A B : Type 0} → (A → B → Type 0) → List B → ℕ × A → Type 0
+abbrev pub IsAtPlace : {A B : Type 0} → (A → B → Type 0) → List B → ℕ × A → Type 0
 IsAtPlace {A} {B} R all (place, x) = (y : B) × (slice_get all place ≡ Some y) × R x y
 
 here_is : {B : Type 0} (front : List B) (y : B) (rest : List B) → slice_get (front ++ y ∷ rest) (length front) ≡ Some y
@@ -71,7 +71,7 @@ placed R xs ys are = placed_from R [] 0 xs ys refl are
 
 -- ---- A fold keeps what each of its steps keeps
 
-each_keeps : {X : Type 0} (P : Making → Type 0) (Q : X → Type 0) (make : Making → X → Making) (items : List X) (making : Making)
+pub each_keeps : {X : Type 0} (P : Making → Type 0) (Q : X → Type 0) (make : Making → X → Making) (items : List X) (making : Making)
     → ((one : Making) (x : X) → P one → Q x → P (make one x)) → AllByRecursion Q items → P making → P (each make making items)
 each_keeps P Q make [] making step are keeps = keeps
 each_keeps P Q make (item ∷ items) making step are keeps = each_keeps P Q make items (make making item) step are.1 (step making item keeps are.0)
@@ -281,17 +281,17 @@ module _ (run : Composition) (owners : List ℕ) (me : ℕ) (stand : Stand) (is_
   pub ports_are : (known : Board) → AreWordsKnown run stand known → ports_in known.words ≡ stand.ports
   ports_are known words = ports_known outs known.words words ∙ sym is_stand
 
-  abbrev Q : ℕ × (ℕ × Standing) → Type 0
+  abbrev pub Q : ℕ × (ℕ × Standing) → Type 0
   Q item = IsAtPlace (IsSame me) (standings run stand.at) item
 
-  standings_are : AllByRecursion Q (held_standings run owners at')
+  pub standings_are : AllByRecursion Q (held_standings run owners at')
   standings_are = placed (IsSame me) (zip owners (standings run at')) (standings run stand.at) (standings_same me owners run.members stand.at.states owns long)
 
-  there_is : {A : Type 0} (f : Standing → Option A) (instance : ℕ) (standing : Standing) → slice_get (standings run stand.at) instance ≡ Some standing
+  pub there_is : {A : Type 0} (f : Standing → Option A) (instance : ℕ) (standing : Standing) → slice_get (standings run stand.at) instance ≡ Some standing
       → entry (map f (standings run stand.at)) instance ≡ f standing
   there_is f instance standing is = ap (option_and_then (λ one. one)) (slice_get-map f (standings run stand.at) instance ∙ ap (option_map f) is)
 
-  map_map : {A B C : Type 0} (f : A → B) (g : B → C) (xs : List A) → map g (map f xs) ≡ map (λ x. g (f x)) xs
+  pub map_map : {A B C : Type 0} (f : A → B) (g : B → C) (xs : List A) → map g (map f xs) ≡ map (λ x. g (f x)) xs
   map_map f g [] = refl
   map_map f g (x ∷ xs) = ap (λ rest. g (f x) ∷ rest) (map_map f g xs)
 

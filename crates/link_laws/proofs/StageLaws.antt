@@ -154,7 +154,7 @@ module _ (run : Composition) (stand : Stand) (known : Board) (long : length stan
         abbrev proposed_in : ℕ
         proposed_in = proposal_of run.stop run.longest stand.at.point.t (filter_map (limit_in stand.at.point.t) (zip run.members known.limits))
 
-        proposed_is : proposed_in ≡ proposed run stand.at stand.ports
+        pub proposed_is : proposed_in ≡ proposed run stand.at stand.ports
         proposed_is =
             ap (proposal_of run.stop run.longest stand.at.point.t)
             (ap₂ (λ members limits. filter_map (limit_in stand.at.point.t) (zip members limits)) (sym members_are) limits_were

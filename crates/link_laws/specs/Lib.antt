@@ -5,4 +5,5 @@ pub mod Lengths
 pub mod Making
 pub mod Nodes
 pub mod Pairs
+pub mod Progress
 pub mod Stages

@@ -15,11 +15,13 @@
 //! - `specs/Lengths.antt`: which facts are short
 //! - `specs/Laws.antt`: over every list of events each listed fact is the true one of its row, and each node has its part of the place
 //!   of its number in the one trace, also after a restart
+//! - `specs/Progress.antt`: nodes make all facts that can be made, and commit as soon as they know all facts of a row
 #![tactic(auto)]
 
 mod fact;
 mod laws;
 mod pair_event;
+mod progress;
 mod stage;
 mod taken;
 
@@ -29,5 +31,6 @@ pub use laws::{
     stages_are_right,
 };
 pub use pair_event::PairEvent;
+pub use progress::{facts_are_dropped, facts_are_made, rows_are_committed};
 pub use stage::Stage;
 pub use taken::Taken;

@@ -11,7 +11,7 @@ use Rattle.link_nodes.specs.Rounds.{RoundsKeepToTheTrace, arrivals, closing_even
 use Rattle.unit_tree.specs.Compositions.{Composition}
 
 module _ (run : Composition) (rule : Rule) (right : IsRightRule run rule) where
-  round_keeps : (seed k : ℕ) (pair : Pair) → PairKeepsTo run rule pair → PairKeepsTo run rule (after_round rule seed k pair)
+  pub round_keeps : (seed k : ℕ) (pair : Pair) → PairKeepsTo run rule pair → PairKeepsTo run rule (after_round rule seed k pair)
   round_keeps seed k pair keeps =
       let worked = after_events rule pair (Work 0 ∷ Work 1 ∷ []) in
       let one = events_keep run rule right pair (Work 0 ∷ Work 1 ∷ []) keeps in
@@ -20,7 +20,7 @@ module _ (run : Composition) (rule : Rule) (right : IsRightRule run rule) where
       let three = events_keep run rule right first (arrivals 1 (numbered_sent seed k first.second.at.number first.first.facts)) two in
       events_keep run rule right (to_second rule seed k first) (closing_events k) three
 
-  rounds_keep : (seed k : ℕ) → PairKeepsTo run rule (after_rounds rule seed k (opened_pair rule run))
+  pub rounds_keep : (seed k : ℕ) → PairKeepsTo run rule (after_rounds rule seed k (opened_pair rule run))
   rounds_keep seed zero = all_events_keep run rule right []
   rounds_keep seed (suc k) = round_keeps seed (suc k) (after_rounds rule seed k (opened_pair rule run)) (rounds_keep seed k)
 

@@ -5,8 +5,7 @@ use Rattle.std.proofs.KnownBytes.{Appends-trans}
 use Rattle.cosim_io.specs.Pieces.{AppendsPrefix}
 use Rattle.cosim_io.proofs.PieceLemmas.{AppendsPrefix-after, AppendsPrefix-longer, AppendsPrefix-nil}
 use Rattle.link_laws.specs.Pairs.{Pair}
-use Rattle.link_nodes.proofs.ExchangeLaws.{pair_there}
-use Rattle.link_nodes.specs.Exchanges.{ExchangeComes, IsOpened, exchange_rule, pair_of, rule_by_turns}
+use Rattle.link_nodes.specs.Exchanges.{IsOpened, RoundsCome, exchange_rule, pair_of, rule_by_turns}
 use Rattle.link_nodes.specs.Rounds.{after_rounds, pair_after}
 use Rattle.link_nodes.specs.ShownRows.{ComesTo, IsJudged}
 use Rattle.link_nodes.specs.Shown.{BeginsRounds, ShowsRounds, lines_shown, told_of}
@@ -43,7 +42,7 @@ module _ (plan : Planned) (seed rounds : ℕ) (exchange : Exchange) (opened : Is
 
   module _ (next : Exchange) (faults1 faults2 : ℕ) where
     abbrev Gone : Result (Unit {0}) CrewFault → Type 0
-    Gone result = ExchangeComes exchange (after_rounds (exchange_rule exchange) seed rounds (pair_of exchange)) next held1 held2 faults1 faults2 result
+    Gone result = RoundsCome exchange (after_rounds (exchange_rule exchange) seed rounds (pair_of exchange)) next held1 held2 faults1 faults2 result
 
     at_plan : (result : Result (Unit {0}) CrewFault) → Gone result
         → ComesTo plan exchange.first.progress (pair_after plan.run seed rounds).first next.first.progress held1 held2 faults1 faults2 result
@@ -74,6 +73,5 @@ module _ (plan : Planned) (seed rounds : ℕ) (exchange : Exchange) (opened : Is
           trace = one.is_trace;
           out = subst (λ all. Appends held0 held2 (header_of plan.system ++ all)) piece
               (Appends-trans held0 held1 held2 (header_of plan.system) grows.piece header grows.put);
-          told = told ∙ ap told_of (pair_there exchange (after_rounds (exchange_rule exchange) seed rounds (pair_of exchange)) next held1 held2 faults1 faults2 gone
-              ∙ target_is);
+          told = told ∙ gone.told ∙ ap told_of target_is;
         }

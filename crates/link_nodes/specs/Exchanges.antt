@@ -3,6 +3,7 @@ use Rattle.std.specs.Prelude.{◌≡◌, ℕ, List, [], length, Option, Result, 
 use Rattle.link_laws.specs.Making.{rule_of}
 use Rattle.link_laws.specs.Nodes.{Rule, by_turns}
 use Rattle.link_laws.specs.Pairs.{Pair, opened_pair}
+use Rattle.link_nodes.specs.Shown.{told_of}
 use Rattle.link_nodes.specs.ShownRows.{ComesTo, IsNoted}
 use Rattle.link_nodes.specs.declared.exchange.Exchange.{Exchange}
 use Rattle.trace_plan.specs.Plans.{Planned}
@@ -44,3 +45,10 @@ pub record IsOpened (plan : Planned) (exchange : Exchange) : Type 0 where
   pub plan' : exchange.plan.value ≡ plan
   pub is_exchange : IsExchange exchange
   pub pair : pair_of exchange ≡ opened_pair (rule_by_turns plan.run) plan.run
+
+-- Rounds came to their end: node 0 is that of the target, what it shows grew by what was written, and the target has the progress that
+-- is returned. Or they were given up on the way.
+pub record RoundsCome {T : Type 0} (exchange : Exchange) (target : Pair) (next : Exchange) (old new : Option (List ℕ)) (faults faults' : ℕ)
+    (result : Result T CrewFault) : Type 0 where
+  pub told : OnOk result (told_of (pair_of next) ≡ told_of target)
+  pub comes : ComesTo exchange.plan.value exchange.first.progress target.first next.first.progress old new faults faults' result

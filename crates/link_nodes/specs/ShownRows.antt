@@ -7,7 +7,7 @@ use Rattle.cosim_io.specs.Pieces.{AppendsPrefix}
 use Rattle.link_laws.specs.Boards.{row_of}
 use Rattle.link_laws.specs.Nodes.{Progress, Rule, taken}
 use Rattle.link_laws.specs.declared.fact.Fact.{Fact}
-use Rattle.link_core.specs.declared.node.Row as lent
+use Rattle.link_core.specs.declared.node.NodeRow as lent
 use Rattle.link_laws.specs.declared.taken.Taken.{Taken}
 use Rattle.link_laws.specs.declared.taken.Taken.TheVariants.{Ended, Row}
 use Rattle.link_nodes.specs.Shown.{lines_shown}
@@ -31,7 +31,7 @@ pub record IsJudged (plan : Planned) : Type 0 where
   pub rows : HasRows plan.system
 
 -- A lent row of a node, as a row.
-abbrev pub row_told : lent.Row → TraceRow
+abbrev pub row_told : lent.NodeRow → TraceRow
 row_told row = record { point = row.point; words = row.words.now }
 
 -- A node came to a row in a call: to a new one, or it has just ended.

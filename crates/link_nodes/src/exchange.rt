@@ -1,12 +1,14 @@
 //! Both nodes of a plan, and the exchange between them in a round.
-ghost use Rattle.std.specs.Prelude.{◌≡◌, ◌∷◌, [], List, Option, ℕ};
+ghost use Rattle.std.specs.Prelude.{◌≡◌, ◌∷◌, ◌&&◌, ◌==◌, [], List, Option, is_some, ℕ};
+ghost use Rattle.link_laws.specs.Keeping.{PairKeepsTo};
 ghost use Rattle.link_laws.specs.Pairs.{after_events};
 ghost use Rattle.link_laws.specs.declared.pair_event.PairEvent.TheVariants.{Work};
 ghost use Rattle.link_nodes.specs.Exchanges.{ExchangeComes, IsExchange, exchange_rule, pair_of};
 ghost use Rattle.link_nodes.specs.Rounds.{after_round, closing_events, to_first, to_second};
+ghost use Rattle.link_nodes.specs.ShownRows.{IsJudged};
 
 use crate::arriving::{take_all, take_all_shown, work_shown};
-use crate::row_room::RowPrinter;
+use crate::row_room::{RowPrinter, judged};
 use crate::spans::Spans;
 use crate::transit::{Round, send};
 use cosim_io::Sink;
@@ -95,6 +97,20 @@ impl Exchange {
         if number % 8 == 0 {
             self.second.restart();
         }
+    }
+
+    /// Returns whether node 0 has ended and node 1 is at its row.
+    pub(crate) fn is_at_end(&self) -> bool
+        requires { IsExchange self.now }
+        ensures at_end { result ≡ (is_some self.now.first.progress.ended
+            && (self.now.second.progress.at.number == self.now.first.progress.at.number)) }
+        ensures keeps { PairKeepsTo self.now.plan.value.run (exchange_rule self.now) (pair_of self.now) }
+        ensures judged { IsJudged self.now.plan.value }
+    {
+        judged(&self.plan);
+        let first = self.first.number();
+        let second = self.second.number();
+        self.first.ended().is_some() && second == first
     }
 
     /// Makes a round.

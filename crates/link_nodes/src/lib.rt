@@ -5,9 +5,9 @@
 //! [`encode`] writes a fact as 22 bytes, and [`decode`] reads them. By their clauses each is the inverse of the other, and other bytes
 //! have no fact.
 //!
-//! Definitions: `specs/Rounds.antt` (what happens in each round), `specs/Shown.antt` (what is written and returned) and
-//! `specs/Wire.antt` (fields and encodings). `specs/ShownRows.antt`, `specs/Exchanges.antt` and `specs/Decoding.antt` describe how the code
-//! proceeds; no promise depends on them.
+//! Definitions: `specs/Rounds.antt` (what happens in each round), `specs/Shown.antt` (what is written and returned),
+//! `specs/Settled.antt` (after which round neither changes) and `specs/Wire.antt` (fields and encodings). `specs/ShownRows.antt`,
+//! `specs/Exchanges.antt` and `specs/Decoding.antt` describe how the code proceeds; no promise depends on them.
 #![tactic(auto)]
 
 mod arriving;
@@ -20,7 +20,7 @@ mod spans;
 mod transit;
 mod wire;
 
-pub use laws::rounds_keep;
+pub use laws::{rounds_keep, rounds_settle};
 pub use run::{Nodes, run_nodes};
 pub use trace_rows::CrewFault as NodesFault;
 pub use wire::{decode, encode};

@@ -8,7 +8,7 @@ ghost use Rattle.trace_rows.specs.Faults.{TellsFault};
 ghost use Rattle.trace_rows.specs.Lines.{lines_of};
 
 use cosim_io::Sink;
-use link_core::{Node, Row, Taken};
+use link_core::{Node, NodeRow, Taken};
 use std::alloc::Global;
 use trace_csv::RowWriter;
 use trace_plan::Plan;
@@ -51,7 +51,12 @@ impl RowPrinter {
     }
 
     /// Writes a row of a plan's trace as one piece.
-    fn put_row<O: Sink>(&mut self, plan: &Plan, row: Row<'_>, out: &mut O) -> Result<(), CrewFault>
+    fn put_row<O: Sink>(
+        &mut self,
+        plan: &Plan,
+        row: NodeRow<'_>,
+        out: &mut O,
+    ) -> Result<(), CrewFault>
         requires row { IsRowOfTrace plan.now.run (row_told row) }
         ensures whole { OnOk result (Appends (O.held out.old) (O.held out.new) (lines_of plan.now.system (row_told row.entry ∷ []))) }
         ensures front { OnErr result (AppendsPrefix (O.held out.old) (O.held out.new) (lines_of plan.now.system (row_told row.entry ∷ []))) }
