@@ -19,7 +19,7 @@ module _ (old mid new : Option (List ℕ)) (before now : ℕ) (bytes : List ℕ)
   pub Taken-past : (into : List ℕ) (n : ℕ) → Taken old mid before now bytes limit → Consumes mid new (take n into) → n ≤ length into
       → limit < length bytes + n → length bytes + n ≤ limit + 1 → ConsumesExactly old new (limit + 1)
   Taken-past into n so_far more fits past room = record {
-    front = bytes ++ take n into;
+    taken = bytes ++ take n into;
     size = omega (arith, size_more into n fits);
     consumed = Consumes-trans old mid new bytes (take n into) so_far.consumed more;
   }
@@ -28,7 +28,7 @@ module _ (old mid new : Option (List ℕ)) (before now : ℕ) (bytes : List ℕ)
   pub Taken-most : (into : List ℕ) (n : ℕ) → Taken old mid before now bytes limit → Consumes mid new (take n into) → n ≤ length into
       → length bytes + n ≤ limit + 1 → ConsumesAtMost old new (limit + 1)
   Taken-most into n so_far more fits room = record {
-    front = bytes ++ take n into;
+    taken = bytes ++ take n into;
     within = omega (arith, size_more into n fits);
     consumed = Consumes-trans old mid new bytes (take n into) so_far.consumed more;
   }

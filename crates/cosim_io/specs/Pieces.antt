@@ -10,15 +10,15 @@ pub record AppendsPrefix (old new : Option (List ℕ)) (piece : List ℕ) : Type
 
 -- known bytes lose a prefix of at most `most` bytes
 pub record ConsumesAtMost (old new : Option (List ℕ)) (most : ℕ) : Type 0 where
-  pub front : List ℕ
-  pub within : length front ≤ most
-  pub consumed : Consumes old new front
+  pub taken : List ℕ
+  pub within : length taken ≤ most
+  pub consumed : Consumes old new taken
 
 -- known bytes lose their first `count` bytes, and there were at least that many
 pub record ConsumesExactly (old new : Option (List ℕ)) (count : ℕ) : Type 0 where
-  pub front : List ℕ
-  pub size : length front ≡ count
-  pub consumed : Consumes old new front
+  pub taken : List ℕ
+  pub size : length taken ≡ count
+  pub consumed : Consumes old new taken
 
 -- the bytes are known, and there are more than `limit` of them
 abbrev pub IsLongerThan : Option (List ℕ) → ℕ → Type 0

@@ -80,20 +80,34 @@ impl Gate for Counts {
     }
 }
 
-/// Without workers nobody answers. The run looks 20,000,000 times for the first step, and then makes it. The lane, whose steps are so
-/// light, is left alone afterwards.
+/// It makes one step.
+const ONE_STEP: &str =
+    "cosim 1\nunit Counter\nstate n : Int64 = 0\noutput y : Int64 = n\nstep\nn := n + 1\nend\nend\ninstance a : Counter\nend\nstop 1\nlongest 1\n";
+
+/// Without workers nobody answers. The run looks 20,000,000 times for the step, and then makes it.
 #[test]
 fn a_wait_in_vain_ends(rt: HostRuntime) -> Result<(), Fail> {
     let alloc = rt.alloc();
-    let plan = plan_of(alloc, COUNTER)?;
+    let plan = plan_of(alloc, ONE_STEP)?;
     let mut out = MemSink::new(alloc, 64, Vec::new(alloc))?;
     let gate = Counts {
         asked: Cell::new(0),
         last: Cell::new(0),
     };
     let report = run_crew(rt, alloc, plan, 0, 4, Policy::Hold, &mut out, &gate)?;
-    assert_eq!(rt; (report.found, report.own), (0, 3));
+    assert_eq!(rt; (report.found, report.own), (0, 1));
     assert_eq!(rt; gate.asked.get(), 20_000_000);
     assert_eq!(rt; gate.last.get(), 19_999_999);
+    Ok(())
+}
+
+/// Its steps are light, so no lane is published where the run doesn't wait.
+#[test]
+fn a_run_of_light_steps_makes_no_ticket(rt: HostRuntime) -> Result<(), Fail> {
+    let alloc = rt.alloc();
+    let plan = plan_of(alloc, TWO)?;
+    let mut out = MemSink::new(alloc, 64, Vec::new(alloc))?;
+    let report = run_crew(rt, alloc, plan, 4, 4, Policy::Hold, &mut out, &OpenGate)?;
+    assert_eq!(rt; (report.found, report.own, report.tickets), (0, 6, 0));
     Ok(())
 }

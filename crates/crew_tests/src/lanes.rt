@@ -1,4 +1,4 @@
-//! Locks of a desk.
+//! Locks and offers of a desk.
 
 use crew_lanes::Desk;
 use std::test::Fail;
@@ -18,5 +18,18 @@ fn each_lane_has_a_lock_of_its_own(rt: HostRuntime) -> Result<(), Fail> {
     assert!(rt; second.try_lock().is_some());
     drop(held);
     assert!(rt; first.try_lock().is_some());
+    Ok(())
+}
+
+#[test]
+fn a_lane_is_offered_until_it_is_withdrawn(rt: HostRuntime) -> Result<(), Fail> {
+    let desk = Desk::open(rt.alloc(), &*plan_of(rt.alloc(), TWO)?)?;
+    assert!(rt; !desk.is_offered(0) && !desk.is_offered(1));
+    desk.offer(1);
+    assert!(rt; !desk.is_offered(0) && desk.is_offered(1));
+    desk.withdraw(1);
+    assert!(rt; !desk.is_offered(1));
+    desk.offer(2);
+    assert!(rt; !desk.is_offered(2));
     Ok(())
 }

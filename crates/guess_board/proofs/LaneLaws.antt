@@ -6,7 +6,7 @@ use Rattle.std.specs.List.{AllByRecursion}
 use Rattle.guess_board.specs.Chains.{Begins, chain_of, common, left_of}
 use Rattle.guess_board.specs.Journals.{replay_of}
 use Rattle.guess_board.specs.Matching.{matching, passed}
-use Rattle.guess_board.specs.Slots.{AreSlotsOf, entries_of, filled, put_front, slots_in}
+use Rattle.guess_board.specs.Slots.{AreSlotsOf, entries_of, filled, fill_first, slots_in}
 use Rattle.guess_board.specs.declared.cell.Cell.{Cell}
 use Rattle.guess_board.specs.declared.journal.Record.{Record}
 use Rattle.guess_board.specs.declared.journal.Record.TheVariants.{Published, Taken, Posted, Back}
@@ -94,7 +94,7 @@ slots_stay line entries first kept kept_so within =
 
 -- The new slots.
 pub slots_new : (line : List Cell) (stay : List Answered) (entries : List (ℕ × Option Answered)) → length stay ≤ length line
-    → entries ≡ put_front (entries_of line []) (map Some stay) → AreSlotsOf line entries × (filled (slots_in entries) ≡ stay)
+    → entries ≡ fill_first (entries_of line []) (map Some stay) → AreSlotsOf line entries × (filled (slots_in entries) ≡ stay)
 slots_new line stay entries short is = slots_are line stay entries short (is ∙ put_some line stay short)
 
 -- A new publish: slots of an old line with answers to it, and how many of these are passed and match.
@@ -132,14 +132,14 @@ module _ (code state : List ℤ) (line : List Cell) (entries : List (ℕ × Opti
       (front.kept_is ∙ ap (λ held. length (matching code (Some state) line held)) left) front.few
 
   pub moved : (fresh new : List (ℕ × Option Answered)) → fresh ≡ entries_of line []
-      → new ≡ put_front fresh (take kept (drop first (slots_in entries))) → IsMoved code state line entries slots first kept new
+      → new ≡ fill_first fresh (take kept (drop first (slots_in entries))) → IsMoved code state line entries slots first kept new
   moved fresh new fresh_is new_is =
       let ones = filled (slots_in entries) in
       let s = front_stays in
       let in_slots = slots_stay front.old_line entries first kept front.old_slots s.within in
       let stay = take kept (drop first ones) in
       let short : length stay ≤ length line = subst (λ n. n ≤ length line) (sym s.many) s.few in
-      let both = slots_new line stay new short (new_is ∙ (λ i. put_front (fresh_is i) (in_slots i))) in
+      let both = slots_new line stay new short (new_is ∙ (λ i. fill_first (fresh_is i) (in_slots i))) in
       record {
         slots_of = both.0;
         held = both.1 ∙ s.are;

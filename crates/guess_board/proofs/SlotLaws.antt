@@ -13,7 +13,7 @@ use Rattle.std.specs.Prelude.{IsTrue, ◌↔◌}
 use Rattle.guess_board.specs.Events.{first_of}
 use Rattle.guess_board.proofs.ChainLaws.{begins_split, first_is}
 use Rattle.guess_board.specs.Matching.{below, matching}
-use Rattle.guess_board.specs.Slots.{AreSlotsOf, entries_of, filled, put_front, slots_in}
+use Rattle.guess_board.specs.Slots.{AreSlotsOf, entries_of, filled, fill_first, slots_in}
 use Rattle.guess_board.specs.declared.cell.Cell.{Cell}
 use Rattle.unit_answers.specs.Answers.{Answered}
 use Rattle.unit_answers.specs.Keys.{StepKey, meaning}
@@ -77,7 +77,7 @@ pub filled_some : (ones : List Answered) → filled (map Some ones) ≡ ones
 filled_some [] = refl
 filled_some (one ∷ ones) = ap (λ more. one ∷ more) (filled_some ones)
 
-pub put_some : (line : List Cell) (ones : List Answered) → length ones ≤ length line → put_front (entries_of line []) (map Some ones) ≡ entries_of line ones
+pub put_some : (line : List Cell) (ones : List Answered) → length ones ≤ length line → fill_first (entries_of line []) (map Some ones) ≡ entries_of line ones
 put_some [] [] short = refl
 put_some [] (one ∷ ones) short = absurd (omega arith)
 put_some (cell ∷ cells) [] short = refl
@@ -235,17 +235,17 @@ put_at line before after place one kept next is =
     let both = slots_are line (ones ++ one ∷ []) after (let w = subst (λ p. p < length line) next.is next.within in omega arith) entries in
     record { slots = both.0; answers = both.1 }
 
-pub put_none : (entries : List (ℕ × Option Answered)) → entries ≡ put_front entries []
+pub put_none : (entries : List (ℕ × Option Answered)) → entries ≡ fill_first entries []
 put_none [] = refl
 put_none (entry ∷ entries) = refl
 
-pub length-put : (entries : List (ℕ × Option Answered)) (slots : List (Option Answered)) → length (put_front entries slots) ≡ length entries
+pub length-put : (entries : List (ℕ × Option Answered)) (slots : List (Option Answered)) → length (fill_first entries slots) ≡ length entries
 length-put [] slots = refl
 length-put (entry ∷ entries) [] = refl
 length-put (entry ∷ entries) (slot ∷ slots) = ap suc (length-put entries slots)
 
 pub put_more : (entries : List (ℕ × Option Answered)) (slots : List (Option Answered)) (i : ℕ) (slot : Option Answered) → i < length entries
-    → slice_get slots i ≡ Some slot → set_value_at (put_front entries (take i slots)) i slot ≡ put_front entries (take (suc i) slots)
+    → slice_get slots i ≡ Some slot → set_value_at (fill_first entries (take i slots)) i slot ≡ fill_first entries (take (suc i) slots)
 put_more [] slots i slot within at = absurd (omega arith)
 put_more (entry ∷ entries) [] i slot within at = absurd (cc)
 put_more (entry ∷ entries) (first ∷ slots) zero slot within at =

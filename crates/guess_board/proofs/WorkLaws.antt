@@ -7,7 +7,7 @@ use Rattle.std.specs.List.{AllByRecursion}
 use Rattle.std.specs.Prelude.{OnErr, OnOk}
 use Rattle.std.specs.Option.{option_map}
 use Rattle.guess_board.specs.Chains.{answer_at, chain, chain_of, code_of, followed_by, key_at, link, whole_state}
-use Rattle.guess_board.specs.Working.{AppendsFront}
+use Rattle.guess_board.specs.Working.{AppendsPrefixOf}
 use Rattle.guess_board.specs.declared.cell.Cell.{Cell}
 use Rattle.guess_board.proofs.TicketLaws.{IsLong, whole_long}
 use Rattle.unit_answers.specs.Answers.{Answered, IsProven}
@@ -46,20 +46,20 @@ pub all_appended : (old now new rest all : List Answered) (one : Answered) → n
 all_appended old now new rest all one added more is =
     more ∙ ap (λ front. front ++ rest) added ∙ append_assoc old (one ∷ []) rest ∙ ap (λ answers. old ++ answers) (sym is)
 
-pub front_appended : (old now new rest all : List Answered) (one : Answered) → now ≡ old ++ one ∷ [] → AppendsFront now rest new → all ≡ one ∷ rest
-    → AppendsFront old all new
+pub front_appended : (old now new rest all : List Answered) (one : Answered) → now ≡ old ++ one ∷ [] → AppendsPrefixOf now rest new → all ≡ one ∷ rest
+    → AppendsPrefixOf old all new
 front_appended old now new rest all one added more is = record {
-  front = one ∷ more.front;
-  begins = ap (λ answers. take (length (one ∷ more.front)) answers) is ∙ ap (λ answers. one ∷ answers) more.begins;
-  is = more.is ∙ ap (λ front. front ++ more.front) added ∙ append_assoc old (one ∷ []) more.front;
+  prefix = one ∷ more.prefix;
+  begins = ap (λ answers. take (length (one ∷ more.prefix)) answers) is ∙ ap (λ answers. one ∷ answers) more.begins;
+  is = more.is ∙ ap (λ front. front ++ more.prefix) added ∙ append_assoc old (one ∷ []) more.prefix;
 }
 
-pub none_appended : (old new all : List Answered) → new ≡ old → AppendsFront old all new
-none_appended old new all same = record { front = []; begins = refl; is = same ∙ sym (append-nil old) }
+pub none_appended : (old new all : List Answered) → new ≡ old → AppendsPrefixOf old all new
+none_appended old new all same = record { prefix = []; begins = refl; is = same ∙ sym (append-nil old) }
 
 -- One answer was added, and no more.
-pub one_appended : (old new rest all : List Answered) (one : Answered) → new ≡ old ++ one ∷ [] → all ≡ one ∷ rest → AppendsFront old all new
-one_appended old new rest all one added is = record { front = one ∷ []; begins = ap (take 1) is; is = added }
+pub one_appended : (old new rest all : List Answered) (one : Answered) → new ≡ old ++ one ∷ [] → all ≡ one ∷ rest → AppendsPrefixOf old all new
+one_appended old new rest all one added is = record { prefix = one ∷ []; begins = ap (take 1) is; is = added }
 
 -- A state after a whole step has as many words as the one before it.
 pub after_long : (one : Answered) (state : List ℤ) (count : ℕ) → IsProven one → whole_state one ≡ Some state → length one.key.state ≡ count
@@ -114,6 +114,6 @@ whole_on old now new rest all one (Ok x) added is more = all_appended old now ne
 whole_on old now new rest all one (Err e) added is more = tt
 
 pub front_on : {E : Type 0} (old now new rest all : List Answered) (one : Answered) (r : Result (Unit {0}) E) → now ≡ old ++ one ∷ [] → all ≡ one ∷ rest
-    → OnErr r (AppendsFront now rest new) → OnErr r (AppendsFront old all new)
+    → OnErr r (AppendsPrefixOf now rest new) → OnErr r (AppendsPrefixOf old all new)
 front_on old now new rest all one (Ok x) added is more = tt
 front_on old now new rest all one (Err e) added is more = front_appended old now new rest all one added more is

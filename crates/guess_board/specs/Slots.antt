@@ -20,10 +20,10 @@ abbrev pub slots_in : List (ℕ × Option Answered) → List (Option Answered)
 slots_in entries = map (λ entry. entry.1) entries
 
 -- Slots of which the first are overwritten.
-abbrev pub put_front : List (ℕ × Option Answered) → List (Option Answered) → List (ℕ × Option Answered)
-put_front [] slots = []
-put_front (entry ∷ entries) [] = entry ∷ entries
-put_front (entry ∷ entries) (slot ∷ slots) = (entry.0, slot) ∷ put_front entries slots
+abbrev pub fill_first : List (ℕ × Option Answered) → List (Option Answered) → List (ℕ × Option Answered)
+fill_first [] slots = []
+fill_first (entry ∷ entries) [] = entry ∷ entries
+fill_first (entry ∷ entries) (slot ∷ slots) = (entry.0, slot) ∷ fill_first entries slots
 
 -- The slots are those of the line, filled with their answers: no filled slot follows an empty one.
 pub record AreSlotsOf (line : List Cell) (entries : List (ℕ × Option Answered)) : Type 0 where

@@ -4,6 +4,7 @@ ghost use Rattle.std.specs.List.{AllByRecursion};
 ghost use Rattle.guess_board.specs.Cells.{FitsCell, RisesFrom};
 ghost use Rattle.guess_board.specs.Guesses.{cells_of_step, go_on, guessed_line, inputs_are, is_planned, seen_of, IsOutlook};
 ghost use Rattle.word_lanes.specs.Guess.{guesses, EachAtMost};
+ghost use Rattle.model_rules.specs.Limits.{window_limit};
 
 use crate::cell::Cell;
 use fixed_words::{List, NoMemory};
@@ -132,7 +133,7 @@ pub fn guess_line(
     window: u32,
     seen: Outlook<'_>,
 ) -> Result<Vec<Cell>, NoMemory>
-    requires window { window ≤ 16 }
+    requires window { window ≤ window_limit }
     requires outlook { IsOutlook (seen_of seen) }
     ensures line { IfOk result (λ line. line.items ≡ guessed_line policy (seen_of seen.entry) window) }
     ensures rises { IfOk result (λ line. RisesFrom seen.entry.row line.items) }

@@ -5,7 +5,7 @@ ghost use Rattle.std.specs.Option.{option_copied};
 ghost use Rattle.guess_board.specs.Cells.{RisesFrom};
 ghost use Rattle.guess_board.specs.Chains.{code_of, with_next, with_posted};
 ghost use Rattle.guess_board.specs.Events.{first_of};
-ghost use Rattle.guess_board.specs.Slots.{entries_of, filled, put_front, slots_in, AreSlotsOf};
+ghost use Rattle.guess_board.specs.Slots.{entries_of, filled, fill_first, slots_in, AreSlotsOf};
 ghost use Rattle.indexmap.specs.IndexMap.{set_value_at};
 ghost use Rattle.unit_answers.specs.Answers.{IsProven};
 ghost use Rattle.unit_answers.specs.Keys.{key_of};
@@ -39,7 +39,7 @@ pub(crate) fn move_answers(from: &mut Slots, first: usize, count: usize, into: &
     requires few { length from.old.entries ≤ 16 }
     requires from { first + count ≤ length from.old.entries }
     requires into { count ≤ length into.old.entries }
-    ensures { into.new.entries ≡ put_front into.old.entries (take count (drop first (slots_in from.old.entries))) }
+    ensures { into.new.entries ≡ fill_first into.old.entries (take count (drop first (slots_in from.old.entries))) }
 {
     for place in 0..count {
         into[place] = from[first + place].take();

@@ -5,7 +5,7 @@ ghost use Rattle.std.specs.Option.{option_map};
 ghost use Rattle.guess_board.specs.Cells.{FitsCell};
 ghost use Rattle.guess_board.specs.Chains.{chain_of, code_of, whole_state};
 ghost use Rattle.guess_board.specs.Lanes.{FitsImage};
-ghost use Rattle.guess_board.specs.Working.{AppendsFront};
+ghost use Rattle.guess_board.specs.Working.{AppendsPrefixOf};
 
 use crate::cell::Cell;
 use crate::needs::whole_state;
@@ -39,7 +39,7 @@ fn append_chain(
     requires each_state { length state.now ≡ image.now.value.program.sizes.states }
     requires cells { AllByRecursion (FitsCell image.now.value.program.sizes.inputs) cells.now }
     ensures whole { OnOk result (answers.new.items ≡ answers.old.items ++ chain_of (code_of image.now.value) state.now cells.now) }
-    ensures front { OnErr result (AppendsFront answers.old.items (chain_of (code_of image.now.value) state.now cells.now) answers.new.items) }
+    ensures front { OnErr result (AppendsPrefixOf answers.old.items (chain_of (code_of image.now.value) state.now cells.now) answers.new.items) }
     ensures image { unit.new.image ≡ unit.old.image }
 {
     let [cell, others @ ..] = cells else {
@@ -82,7 +82,7 @@ pub fn work_off(
     requires code { unit.old.image.program ≡ image.now.value.program }
     requires fits { FitsImage image.now.value ticket.now }
     ensures whole { OnOk result (answers.new.items ≡ answers.old.items ++ chain_of (code_of image.now.value) ticket.now.start (take most ticket.now.cells)) }
-    ensures front { OnErr result (AppendsFront answers.old.items (chain_of (code_of image.now.value) ticket.now.start (take most ticket.now.cells)) answers.new.items) }
+    ensures front { OnErr result (AppendsPrefixOf answers.old.items (chain_of (code_of image.now.value) ticket.now.start (take most ticket.now.cells)) answers.new.items) }
     ensures image { unit.new.image ≡ unit.old.image }
 {
     let cells = ticket.cells();

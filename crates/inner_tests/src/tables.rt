@@ -125,7 +125,7 @@ const CUTS: &[Cut] = &[
 #[test]
 fn an_input_is_cut_at_its_first_trace(rt: HostRuntime) -> Result<(), Fail> {
     for (input, cut) in CUTS {
-        assert_eq!(rt; part(input).map(|parts| (parts.front, parts.table)), *cut);
+        assert_eq!(rt; part(input).map(|parts| (parts.model, parts.table)), *cut);
     }
     Ok(())
 }

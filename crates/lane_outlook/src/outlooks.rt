@@ -5,6 +5,7 @@ ghost use Rattle.guess_board.specs.Guesses.{IsOutlook, guessed_line, seen_of};
 ghost use Rattle.guess_board.specs.declared.fault.LaneFault.TheVariants as fault;
 ghost use Rattle.lane_outlook.specs.Outlooks.{IsSeenAt};
 ghost use Rattle.trace_core.specs.Runs.{is_ended, step_length};
+ghost use Rattle.model_rules.specs.Limits.{window_limit};
 
 use guess_board::{Lane, LaneFault, Outlook, Policy, guess_line};
 use std::alloc::Global;
@@ -59,7 +60,7 @@ pub fn publish_from(
     state: &[i64],
     lane: &mut Lane,
 ) -> Result<u32, LaneFault>
-    requires window { window ≤ 16 }
+    requires window { window ≤ window_limit }
     requires outlook { IsOutlook (seen_of seen) }
     requires each_state { length state.now ≡ lane.old.image.program.sizes.states }
     requires each_input { length seen.last.now ≡ lane.old.image.program.sizes.inputs }

@@ -2,6 +2,7 @@
 ghost use Rattle.std.specs.Prelude.{◌≡◌, ◌≤◌, ◌<◌, ◌+◌, ◌^◌, length};
 ghost use Rattle.trace_core.specs.Courses.{course_of_trial, course_of_redo, course_in, course_on, IsReady};
 ghost use Rattle.trace_core.specs.Seats.{AreWithin, HaveClocks};
+ghost use Rattle.model_rules.specs.Limits.{instance_limit};
 
 use crate::phase::Phase;
 use crate::seat::Seat;
@@ -55,7 +56,7 @@ fn course_of_trial(plan: &Plan, seats: &[Seat], point: Point, h: u64, replies: &
 
 /// Returns where the run goes from the redo of a step by a length of `h`.
 fn course_of_redo(plan: &Plan, seats: &[Seat], point: Point, h: u64) -> Course
-    requires seats { length seats.now ≤ 64 }
+    requires seats { length seats.now ≤ instance_limit }
     requires end { point.t + h ≤ 10 ^ 15 }
     requires zeros { point.n ≤ plan.now.run.zero_budget }
     ensures { result ≡ course_of_redo plan.now.run point h seats.now }

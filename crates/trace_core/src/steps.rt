@@ -2,6 +2,7 @@
 ghost use Rattle.std.specs.Prelude.{◌≡◌, ◌≤◌, ◌<◌, ◌+◌, ◌^◌, length, map, zip, IfNone};
 ghost use Rattle.trace_core.specs.Seats.{AreBegun, IsBegun, HasClock, HaveClocks, IsWithin, AreWithin, AreSaved, AreAsLong, HaveOwnIds, all_told, asked, saved, slot_end, redo_slot_end, replied, slot_reply};
 ghost use Rattle.unit_tree.specs.Successor.{first_told};
+ghost use Rattle.model_rules.specs.Limits.{instance_limit};
 
 use crate::seat::{Seat, Slot};
 use fixed_words::Fault;
@@ -149,7 +150,7 @@ fn redo_end(instance: u32, seat: &Seat) -> Option<Ending>
 /// Reads a redo, of which no cell is empty. Returns the end by the first instance that faults or accepts less than the whole
 /// step, or `None` where there is none.
 pub(crate) fn read_redo(seats: &[Seat]) -> Option<Ending>
-    requires { length seats.now ≤ 64 }
+    requires { length seats.now ≤ instance_limit }
     ensures { result ≡ first_told redo_slot_end seats.now }
 {
     for instance in 0..seats.len() {

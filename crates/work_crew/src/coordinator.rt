@@ -5,10 +5,11 @@ ghost use Rattle.trace_core.specs.Runs.{IsWanted, is_ended};
 ghost use Rattle.trace_rows.specs.Passing.{AreStepsThere, IsFilled};
 
 use crate::gate::Gate;
-use crew_lanes::{Desk, Due, Patience};
+use crate::speculation::{Guessing, Speculation};
+use crew_lanes::Desk;
 use fixed_words::NoMemory;
 use front_cell::{FrontCell, Writer};
-use guess_board::{Lane, Policy};
+use guess_board::Lane;
 use lane_outlook::{outlook, publish_from};
 use std::alloc::Global;
 use std::sync::{Arc, Mutex, Wait};
@@ -17,14 +18,6 @@ use trace_rows::Drive;
 
 /// After so many looks, the run makes a step that nobody has answered, whatever the gate says.
 const MOST_TURNS: u64 = 20_000_000;
-
-/// How lines are guessed: for how many rows, and by which policy.
-#[derive(Clone, Copy)]
-pub(crate) struct Guessing {
-    pub(crate) window: u32,
-    pub(crate) policy: Policy,
-    ghost few: { window ≤ 16 },
-}
 
 /// A run whose steps are found in lanes, or made where nobody has answered them, with the cell that tells its progress to the
 /// workers.
@@ -39,7 +32,9 @@ pub(crate) struct Coordinator<'a, R, G> {
     pub(crate) writer: Writer,
     pub(crate) guessing: Guessing,
     /// One for each instance.
-    pub(crate) patience: Vec<Patience>,
+    pub(crate) speculations: Vec<Speculation>,
+    /// The instances whose lanes are ever published, the last one first.
+    pub(crate) speculative: Vec<u32>,
     pub(crate) gate: &'a G,
     ghost planned: { run.plan ≡ plan.value },
     ghost same_cell: { writer.cell ≡ arc_value front },
@@ -93,29 +88,33 @@ fn look<R: Wait, G: Gate>(
     take_found(rt, lane, run, instance)
 }
 
-/// Looks in the lane of an instance, if it was published, and records whether there was something.
+/// Looks in the lane of an instance, if it was published, and records whether there was something. If not, the lane is withdrawn,
+/// since the run makes the step itself.
 fn look_if_published<R: Wait, G: Gate>(
     rt: &R,
     gate: &G,
     desk: &Desk,
-    patience: &mut [Patience],
+    speculations: &mut [Speculation],
     run: &mut Run,
     instance: u32,
 ) -> bool
     ensures taken { result ≡ true → IsFilled run.old instance run.new }
     ensures kept { result ≡ false → run.new ≡ run.old }
 {
+    let Some(speculation) = speculations.get_mut(instance as usize) else {
+        return false;
+    };
+    if !speculation.is_published() {
+        return false;
+    }
     let Some(lane) = desk.lane(instance) else {
         return false;
     };
-    let Some(patience) = patience.get_mut(instance as usize) else {
-        return false;
-    };
-    if patience.rests() {
-        return false;
-    }
     let found = look(rt, gate, lane, run, instance);
-    patience.tell(found);
+    speculation.tell(found);
+    if !found {
+        desk.withdraw(instance);
+    }
     found
 }
 
@@ -124,14 +123,14 @@ fn fill<R: Wait, G: Gate>(
     rt: &R,
     gate: &G,
     desk: &Desk,
-    patience: &mut [Patience],
+    speculations: &mut [Speculation],
     run: &mut Run,
     instance: u32,
 )
     requires wanted { IsWanted run.old instance }
     ensures { IsFilled run.old instance run.new }
 {
-    if !look_if_published(rt, gate, desk, patience, run, instance) {
+    if !look_if_published(rt, gate, desk, speculations, run, instance) {
         run.compute(instance);
     }
 }
@@ -141,7 +140,7 @@ fn fill_all<R: Wait, G: Gate>(
     rt: &R,
     gate: &G,
     desk: &Desk,
-    patience: &mut [Patience],
+    speculations: &mut [Speculation],
     run: &mut Run,
     instances: u32,
 )
@@ -150,13 +149,13 @@ fn fill_all<R: Wait, G: Gate>(
 {
     for instance in 0..instances {
         if run.is_wanted(instance) {
-            fill(rt, gate, desk, patience, run, instance);
+            fill(rt, gate, desk, speculations, run, instance);
         }
     }
 }
 
-/// Publishes the lane of an instance with the guesses at the run's stand, if the lane has that instance's image. Where the lane is
-/// full, the workers have less to do ahead, and nothing else changes.
+/// Publishes the lane of an instance with the guesses at the run's stand, if the lane has that instance's image. Where the lane is full,
+/// the workers have less to do ahead, and nothing else changes.
 fn publish<R: Wait>(
     rt: &R,
     alloc: Global,
@@ -164,6 +163,7 @@ fn publish<R: Wait>(
     run: &Run,
     guessing: Guessing,
     lane: &Mutex<Lane>,
+    speculation: &mut Speculation,
     instance: u32,
 )
     requires own { run.now.plan ≡ plan.now }
@@ -171,22 +171,17 @@ fn publish<R: Wait>(
     requires going { is_ended run.now.phase ≡ false }
 {
     let seen = outlook(plan, run, instance);
+    let window = speculation.window(guessing, seen);
     let state = run.state(instance);
     let mut lane = lane.lock(rt);
     let (states, inputs) = (lane.image().states(), lane.image().inputs());
     if state.len() == states as usize && seen.last.len() == inputs as usize {
-        let _ = publish_from(
-            alloc,
-            guessing.policy,
-            guessing.window,
-            seen,
-            state,
-            &mut lane,
-        );
+        let _ = publish_from(alloc, guessing.policy, window, seen, state, &mut lane);
     }
 }
 
-/// Publishes all lanes except those that are left alone for now. These make no tickets meanwhile.
+/// Publishes the lanes of some instances, except those that rest, and offers them. While a lane is published it isn't offered, so that
+/// no worker waits for its lock.
 fn publish_all<R: Wait>(
     rt: &R,
     alloc: Global,
@@ -194,28 +189,48 @@ fn publish_all<R: Wait>(
     run: &Run,
     guessing: Guessing,
     desk: &Desk,
-    patience: &mut [Patience],
+    speculations: &mut [Speculation],
+    instances: &[u32],
 )
     requires own { run.now.plan ≡ plan.now }
     requires going { is_ended run.now.phase ≡ false }
 {
-    for instance in 0..plan.instances() {
+    for instance in instances {
+        let instance = *instance;
+        if instance >= plan.instances() {
+            continue;
+        }
         let Some(lane) = desk.lane(instance) else {
             continue;
         };
-        let Some(patience) = patience.get_mut(instance as usize) else {
+        let Some(speculation) = speculations.get_mut(instance as usize) else {
             continue;
         };
-        let window = match patience.begin_phase() {
-            Due::Publish => guessing.window,
-            Due::Withdraw => 0,
-            Due::Nothing => continue,
-        };
-        let guessing = Guessing {
-            window,
-            policy: guessing.policy,
-        };
-        publish(rt, alloc, plan, run, guessing, lane, instance);
+        if speculation.begin_phase() {
+            desk.withdraw(instance);
+            publish(rt, alloc, plan, run, guessing, lane, speculation, instance);
+            desk.offer(instance);
+        }
+    }
+}
+
+/// Stores the number of rows for the workers, if any lane is ever published.
+fn advance_if_published<R: Wait>(
+    rt: &R,
+    front: &FrontCell,
+    writer: &mut Writer,
+    rows: u64,
+    instances: &[u32],
+)
+    requires own { writer.old.cell ≡ front.now }
+    requires forward { writer.old.front.rows ≤ rows }
+    requires still_open { writer.old.front.closed ≡ false }
+    ensures same_cell { writer.new.cell ≡ writer.old.cell }
+    ensures still_open { writer.new.front.closed ≡ false }
+    ensures not_ahead { writer.new.front.rows ≤ rows }
+{
+    if !instances.is_empty() {
+        front.advance(rt, writer, rows);
     }
 }
 
@@ -249,17 +264,24 @@ impl<'a, R: Wait + Drop, G: Gate> Drive for Coordinator<'a, R, G> {
             &self.run,
             self.guessing,
             &self.desk,
-            &mut self.patience,
+            &mut self.speculations,
+            &self.speculative,
         );
         // The row at the run's stand was written. Workers give back tickets for earlier rows; by now the lanes make no more of these.
         let rows = self.run.number() + 1;
-        self.front.advance(&self.rt, &mut self.writer, rows);
+        advance_if_published(
+            &self.rt,
+            &self.front,
+            &mut self.writer,
+            rows,
+            &self.speculative,
+        );
         let instances = self.plan.instances();
         fill_all(
             &self.rt,
             self.gate,
             &self.desk,
-            &mut self.patience,
+            &mut self.speculations,
             &mut self.run,
             instances,
         );

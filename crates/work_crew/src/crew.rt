@@ -6,12 +6,14 @@ ghost use Rattle.trace_core.specs.Runs.{IsOpened, Stands};
 ghost use Rattle.trace_rows.specs.Faults.{TellsFault};
 ghost use Rattle.trace_rows.specs.Reports.{AppendsTracePrefix, ReportsTrace};
 ghost use Rattle.unit_tree.specs.Successor.{first_position};
+ghost use Rattle.model_rules.specs.Limits.{window_limit, worker_limit};
 
-use crate::coordinator::{Closed, Coordinator, Guessing};
+use crate::coordinator::{Closed, Coordinator};
 use crate::gate::Gate;
+use crate::speculation::{Guessing, Speculation};
 use crate::worker::{Home, Tickets, Watch, Worker, WorkerView, Workplace, Works};
 use cosim_io::Sink;
-use crew_lanes::{Desk, Patience, TicketSums};
+use crew_lanes::{Desk, TicketSums};
 use fixed_words::NoMemory;
 use front_cell::{FrontCell, Writer};
 use guess_board::{Policy, Ticket};
@@ -24,7 +26,7 @@ use ticket_deque::{Hand, Reach, make};
 use trace_core::{Plan, Run};
 use trace_rows::{CrewFault, Report, put_trace};
 use unit_names::lines_cost;
-use unit_tree::{Instance, System, Unit};
+use unit_tree::{System, Unit};
 
 /// The ends of the workers' deques: the hands, and a first reach of each deque.
 #[derive(Drop)]
@@ -136,7 +138,10 @@ fn make_crew<R: Wait>(
 }
 
 /// Returns what the steps of an instance cost at most.
-fn step_cost(system: &System, instance: &Instance) -> u32 {
+fn step_cost(system: &System, instance: u32) -> u32 {
+    let Some(instance) = system.instances.as_slice().get(instance as usize) else {
+        return 0;
+    };
     match system.unit_of(instance) {
         Some(
             Unit {
@@ -148,14 +153,59 @@ fn step_cost(system: &System, instance: &Instance) -> u32 {
     }
 }
 
-/// Returns the patience with each lane, at the beginning of a run.
-fn patience_of(alloc: Global, plan: &Plan) -> Result<Vec<Patience>, NoMemory> {
-    let system = plan.checked().system();
-    let mut patience = Vec::with_capacity(alloc, system.instances.len())?;
-    for instance in system.instances.as_slice() {
-        patience.push(Patience::new(step_cost(system, instance)))?;
+/// Returns the cost by which it is decided whether an instance is stepped ahead. Where the gate waits, each step counts as heavy. A
+/// component alone gains nothing, since each of its steps begins where the one before ends.
+fn counted_cost(plan: &Plan, instance: u32, waits: bool) -> u32 {
+    if waits {
+        u32::MAX
+    } else if plan.instances() == 1 {
+        0
+    } else {
+        step_cost(plan.checked().system(), instance)
     }
-    Ok(patience)
+}
+
+/// Returns how far each instance is stepped ahead, at the beginning of a run.
+fn speculations_of(
+    alloc: Global,
+    plan: &Plan,
+    window: u32,
+    waits: bool,
+) -> Result<Vec<Speculation>, NoMemory> {
+    let mut speculations = Vec::with_capacity(alloc, plan.instances() as usize)?;
+    for instance in 0..plan.instances() {
+        let cost = counted_cost(plan, instance, waits);
+        let inputs = plan.image(instance).inputs();
+        speculations.push(Speculation::new(alloc, inputs, cost, window)?)?;
+    }
+    Ok(speculations)
+}
+
+/// Returns the instances whose lanes are ever published, the last one first, as workers begin with it.
+fn speculative_of(alloc: Global, speculations: &[Speculation]) -> Result<Vec<u32>, NoMemory> {
+    let mut instances = Vec::with_capacity(alloc, speculations.len())?;
+    for (number, speculation) in (0..u32::MAX).zip(speculations) {
+        if speculation.pays() {
+            instances.push(number)?;
+        }
+    }
+    instances.reverse();
+    Ok(instances)
+}
+
+/// Returns how many workers are started: no more than there are processors beside that of the run, of which one is assumed, and none
+/// where no lane is published.
+fn started_workers<R: Threads>(rt: &R, workers: u32, speculative: &[u32]) -> u32
+    ensures { result ≤ workers }
+{
+    if speculative.is_empty() {
+        return 0;
+    }
+    let Ok(processors) = thread::available_parallelism(rt) else {
+        return workers;
+    };
+    let others = u32::try_from(processors.get() - 1).unwrap_or(workers);
+    workers.min(others.max(1))
 }
 
 /// An opened run with its crew: the coordinator that drives it, the workers, which are not started, and a place for the thread of
@@ -181,12 +231,14 @@ fn open_crew<'a, R: Threads + Wait + Copy + Send + Drop + 'static, G: Gate>(
 {
     let run = Run::open(alloc, Arc::clone(plan)?)?;
     let (shared, mut writer) = share(alloc, plan)?;
+    let speculations = speculations_of(alloc, plan, guessing.window, gate.waits())?;
+    let speculative = speculative_of(alloc, &speculations)?;
+    let workers = started_workers(&rt, workers, &speculative);
     let crew = make_crew(&rt, alloc, plan, &shared, &mut writer, workers)?;
     let mut threads = Vec::with_capacity(alloc, workers as usize)?;
     for _ in 0..workers {
         threads.push(None)?;
     }
-    let patience = patience_of(alloc, plan)?;
     let coordinator = Coordinator {
         rt,
         alloc,
@@ -196,7 +248,8 @@ fn open_crew<'a, R: Threads + Wait + Copy + Send + Drop + 'static, G: Gate>(
         front: shared.front,
         writer,
         guessing,
-        patience,
+        speculations,
+        speculative,
         gate,
     };
     Ok(OpenedCrew {
@@ -288,8 +341,8 @@ pub fn run_crew<R: Threads + Wait + Copy + Send + Drop + 'static, O: Sink, G: Ga
     out: &mut O,
     gate: &G,
 ) -> Result<Report, CrewFault>
-    requires workers { workers ≤ 16 }
-    requires window { window ≤ 16 }
+    requires workers { workers ≤ worker_limit }
+    requires window { window ≤ window_limit }
     ensures whole { IfOk result (ReportsTrace plan.value.system (O.held out.old) (O.held out.new)) }
     ensures front { OnErr result (AppendsTracePrefix plan.value.system (O.held out.old) (O.held out.new)) }
     ensures cause { TellsFault (O.faults out.old) (O.faults out.new) result }

@@ -5,8 +5,8 @@
 //! answers to required steps from the lanes, and makes each step itself that nobody has answered. The workers take tickets of the
 //! lanes, answer them by units of their own, and post the answers.
 //!
-//! A lane in which nothing is found again and again, or whose steps are light, is left alone for a while. So workers cost little
-//! where they don't help.
+//! A lane whose last guess was wrong is published for one row alone, whose inputs are known. A lane whose steps are light is never
+//! published, and a run without any other lane starts no worker. So workers cost little where they don't help.
 //!
 //! Each lane has its own lock, and no thread holds two locks. The written bytes don't depend on the contents of lanes: an answer is
 //! accepted only where its key is that of the required step, and each answer is the meaning of its key. A [`Gate`] says how long
@@ -20,6 +20,7 @@
 mod coordinator;
 mod crew;
 mod gate;
+mod speculation;
 mod worker;
 
 pub use crew::run_crew;

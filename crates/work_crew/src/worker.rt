@@ -181,11 +181,13 @@ impl Worker {
     }
 
     /// Makes one turn, when so many rows were written. Returns whether it found a ticket. A ticket for a row which the run has left is
-    /// given back: from its present row, the run needs another one.
+    /// given back: from its present row, the run needs another one. So is one of a lane that the run withdrew, since it makes that
+    /// step itself.
     fn turn<R: Wait>(&mut self, rt: &R, rows: u64) -> Result<bool, NoMemory> {
         let served = self.take_home(rt)?;
         match self.tickets.next(rt) {
-            Some(ticket) if is_behind(&ticket, rows) => {
+            Some(ticket)
+                if is_behind(&ticket, rows) || !self.seat.desk.is_offered(ticket.instance()) => {
                 self.seat.desk.back(rt, ticket);
                 Ok(true)
             }
@@ -197,11 +199,11 @@ impl Worker {
         }
     }
 
-    /// Takes a ticket of each home lane that makes one. A ticket for which the hand has no space is answered at once. Returns whether
-    /// there was such a ticket.
+    /// Takes a ticket of each home lane that makes one, the last lane first, since the run begins with the first one. A ticket for which
+    /// the hand has no space is answered at once. Returns whether there was such a ticket.
     fn take_home<R: Wait>(&mut self, rt: &R) -> Result<bool, NoMemory> {
         let mut served = false;
-        for instance in 0..self.seat.desk.len() as u32 {
+        for instance in (0..self.seat.desk.len() as u32).rev() {
             if !self.seat.home.has(instance) {
                 continue;
             }

@@ -1,7 +1,7 @@
 use Rattle.std.proofs.Common.{◌≡◌, ◌∙◌, ◌+◌, ap, sym, refl, arith, length, take, drop, Some, add-one}
 use Rattle.std.specs.Prelude.{slice_get}
 use Rattle.indexmap.specs.IndexMap.{set_value_at}
-use Rattle.guess_board.specs.Slots.{put_front, slots_in}
+use Rattle.guess_board.specs.Slots.{fill_first, slots_in}
 use Rattle.guess_board.proofs.SlotLaws.{drop_later, drop_set, get_dropped, length-put, length-set_slot, put_more, put_none, same_slot}
 use Rattle.guess_board.proofs.slots.move_answers.Goals as goal
 
@@ -34,5 +34,5 @@ loop-place-preserved c =
           ∙ drop_later l.from.entries from k (c.args.first + (l.place + 1)) (omega arith) l.invariant.left;
       put = ap (λ es. set_value_at es l.place c.take.result) l.invariant.put
           ∙ put_more into (drop c.args.first all) l.place c.take.result (omega (arith, c.requires.into)) held
-          ∙ ap (λ n. put_front into (take n (drop c.args.first all))) (sym (add-one l.place));
+          ∙ ap (λ n. fill_first into (take n (drop c.args.first all))) (sym (add-one l.place));
     }

@@ -7,7 +7,7 @@ use Rattle.guess_board.specs.Journals.{replay_of, with_publish}
 use Rattle.guess_board.specs.Keeping.{answers_held, lane_state}
 use Rattle.guess_board.specs.Lanes.{LaneState, lane_need}
 use Rattle.guess_board.specs.Matching.{matching, need_told, passed}
-use Rattle.guess_board.specs.Slots.{entries_of, filled, put_front, slots_in}
+use Rattle.guess_board.specs.Slots.{entries_of, filled, fill_first, slots_in}
 use Rattle.guess_board.proofs.LaneLaws.{Front, IsMoved, answers_published, moved}
 use Rattle.guess_board.proofs.SlotLaws.{answers_rise, length-entries, rises_from_none}
 use Rattle.guess_board.proofs.lane.Lane.publish.Goals as goal
@@ -54,7 +54,7 @@ invariant_of-self-2 c =
       few = subst (λ l. kept ≤ length l) c.deref-3.ensures.value few;
     } in
     let fresh : c.in_ok-slots.slots.entries ≡ entries_of line [] = c.in_ok-slots.ensures ∙ ap (λ l. entries_of l []) c.deref.ensures.value in
-    let new : c.move_answers.new.into.entries ≡ put_front c.in_ok-slots.slots.entries (take kept (drop first (slots_in r.slots.entries))) =
+    let new : c.move_answers.new.into.entries ≡ fill_first c.in_ok-slots.slots.entries (take kept (drop first (slots_in r.slots.entries))) =
     c.move_answers.ensures in
     let m : IsMoved code state line r.slots.entries slots first kept c.move_answers.new.into.entries =
     moved code state line r.slots.entries slots first kept front c.in_ok-slots.slots.entries c.move_answers.new.into.entries fresh new in
@@ -95,7 +95,7 @@ returns-clause-published c =
       few = subst (λ l. kept ≤ length l) c.deref-3.ensures.value few;
     } in
     let fresh : c.in_ok-slots.slots.entries ≡ entries_of line [] = c.in_ok-slots.ensures ∙ ap (λ l. entries_of l []) c.deref.ensures.value in
-    let new : c.move_answers.new.into.entries ≡ put_front c.in_ok-slots.slots.entries (take kept (drop first (slots_in r.slots.entries))) =
+    let new : c.move_answers.new.into.entries ≡ fill_first c.in_ok-slots.slots.entries (take kept (drop first (slots_in r.slots.entries))) =
     c.move_answers.ensures in
     let m : IsMoved code state line r.slots.entries slots first kept c.move_answers.new.into.entries =
     moved code state line r.slots.entries slots first kept front c.in_ok-slots.slots.entries c.move_answers.new.into.entries fresh new in
@@ -156,7 +156,7 @@ returns-clause-kept c =
       few = subst (λ l. kept ≤ length l) c.deref-3.ensures.value few;
     } in
     let fresh : c.in_ok-slots.slots.entries ≡ entries_of line [] = c.in_ok-slots.ensures ∙ ap (λ l. entries_of l []) c.deref.ensures.value in
-    let new : c.move_answers.new.into.entries ≡ put_front c.in_ok-slots.slots.entries (take kept (drop first (slots_in r.slots.entries))) =
+    let new : c.move_answers.new.into.entries ≡ fill_first c.in_ok-slots.slots.entries (take kept (drop first (slots_in r.slots.entries))) =
     c.move_answers.ensures in
     let m : IsMoved code state line r.slots.entries slots first kept c.move_answers.new.into.entries =
     moved code state line r.slots.entries slots first kept front c.in_ok-slots.slots.entries c.move_answers.new.into.entries fresh new in
