@@ -1,6 +1,6 @@
 -- Laws of structured code: the machine follows it, it is valid, and programs of it have facts.
 use Rattle.std.specs.Prelude.{◌≡◌, ℕ, ◌+◌, ◌≤◌, ℤ, List, length, IsTrue, Some}
-use Rattle.model_rules.specs.Limits.{cost_limit, input_limit, local_limit, output_limit, state_limit}
+use Rattle.model_rules.specs.Limits.{cost_limit, height_limit, input_limit, local_limit, output_limit, state_limit}
 use Rattle.unit_vm.specs.declared.instruction.Instruction.{Instruction}
 use Rattle.unit_vm.specs.declared.instruction.Flow.TheVariants as flow
 use Rattle.unit_vm.specs.declared.program.CodeFacts.{CodeFacts}
@@ -37,7 +37,7 @@ pub record FitsPart (sizes : Sizes) (role : Role) (piece : Piece) (finish : Inst
   pub height : ℕ
   pub leaves : height_behind piece 0 ≡ Some height
   pub operand : takes finish ≤ height
-  pub low : top_of piece 0 ≤ 64
+  pub low : top_of piece 0 ≤ height_limit
   pub cheap : cost piece + 1 ≤ cost_limit
 
 -- The part is valid, with these heights, and costs one more than the piece.

@@ -8,7 +8,7 @@ use Rattle.code_units.specs.Laws.{CodesCostWhatTreesDo}
 use Rattle.code_units.specs.Scopes.{scope_of}
 use Rattle.code_units.specs.StepLines.{lines_code}
 use Rattle.code_units.specs.UnitPrograms.{output_code, limit_code, step_piece, IsCallable, IsRunnable}
-use Rattle.code_units.specs.declared.scope.Scope.{Scope}
+use Rattle.code_units.specs.declared.scope.CodeScope.{CodeScope}
 use Rattle.code_units.proofs.FitLines.{fine_lines}
 use Rattle.code_units.proofs.FitPieces.{Known, fine}
 use Rattle.code_units.proofs.FitUnits.{scope_known, output_fits, limit_fits, step_fits}
@@ -22,7 +22,7 @@ use Rattle.unit_vm.specs.Loops.{cost_of}
 use Rattle.unit_vm.specs.declared.instruction.Instruction.TheVariants.{Give, Limit, Done}
 use Rattle.unit_vm.specs.declared.program.Role.TheVariants as role
 
-module _ (scope : Scope) (known : Known scope) where
+module _ (scope : CodeScope) (known : Known scope) where
   output_cheap : (output : Output) → IsCallable scope output.value → AreDecimals output.ty
       → cost_of (output_code scope output) ≤ expression_call_cost output.value
   output_cheap output callable typed =

@@ -10,7 +10,7 @@ use Rattle.fixed_words.specs.declared.types.Kind.TheVariants as kinds
 use Rattle.code_units.specs.Expressions.{Coded, Coding, leaf, name_code, truth_code, unary_code, unary_kind_of, binary_code, binary_kind_of, and_perhaps}
 use Rattle.code_units.specs.Expressions.{unary_joined, binary_joined, clamp_joined, choice_joined, node_code, code_of}
 use Rattle.code_units.specs.Scopes.{named}
-use Rattle.code_units.specs.declared.scope.Scope.{Scope}
+use Rattle.code_units.specs.declared.scope.CodeScope.{CodeScope}
 use Rattle.code_pieces.specs.Pieces.{Piece, One, Then, Choice, and_then, does}
 use Rattle.unit_tree.specs.Kinds.{same_kind}
 use Rattle.unit_tree.specs.Values.{◌>>=◌, as_kind, truth, holds, unary_value, binary_value, clamped_value, value_of, value_of_name, node_meaning, Meaning}
@@ -209,12 +209,12 @@ module _ (slots : List ℤ) (accepted : ℕ) where
   -- ---- Expressions
 
   -- Slots and an environment agree: in the words of all names, and in the times.
-  pub record Sees (scope : Scope) (env : Environment) : Type 0 where
+  pub record Sees (scope : CodeScope) (env : Environment) : Type 0 where
     pub time : slice_get slots scope.time ≡ Some (pos env.time)
     pub step : slice_get slots scope.step ≡ Some (pos env.step)
     pub names : (name : List ℕ) → Means (name_code (named scope.names name)) (Ok (value_of_name env.variables env.words name))
 
-  module _ (scope : Scope) (env : Environment) (sees : Sees scope env) where
+  module _ (scope : CodeScope) (env : Environment) (sees : Sees scope env) where
     abbrev pub Here : Expr → Type 0
     Here e = Means (code_of e scope) (value_of e env)
 

@@ -11,7 +11,7 @@ use Rattle.code_units.specs.StepLines.{repeat_coded, all_coded, node_line_code, 
 use Rattle.code_units.specs.declared.scope.Named.{Named}
 use Rattle.code_units.specs.declared.scope.NamePlace.{NamePlace}
 use Rattle.code_units.specs.declared.scope.NamePlace.TheVariants.{Constant, Slot}
-use Rattle.code_units.specs.declared.scope.Scope.{Scope}
+use Rattle.code_units.specs.declared.scope.CodeScope.{CodeScope}
 use Rattle.code_units.proofs.FitPieces.{one_is, then_is, then_top, choice_is, choice_top, NamedFits, Known, type_known, fine}
 use Rattle.code_pieces.specs.Pieces.{Piece, One, When, Turns, cost, is_made, one_height, height_behind, top_of}
 use Rattle.unit_tree.specs.Costs.{cost_of, part_cost, line_cost}
@@ -124,7 +124,7 @@ module _ (sizes : Sizes) where
     cheap = no_dearer count (cost body.piece) p f.cheap;
   }
 
-module _ (scope : Scope) (known : Known scope) where
+module _ (scope : CodeScope) (known : Known scope) where
   value_good : (value : Expr) (next : LineCoded) (q : ℕ) → GoodLines scope.sizes next 1 q
       → GoodLines scope.sizes (behind (value_coded value scope) next) 0 (cost_of value + q)
   value_good value next q g =

@@ -16,7 +16,7 @@ use Rattle.code_units.specs.Scopes.{named}
 use Rattle.code_units.specs.declared.scope.Named.{Named}
 use Rattle.code_units.specs.declared.scope.NamePlace.{NamePlace}
 use Rattle.code_units.specs.declared.scope.NamePlace.TheVariants.{Constant, Slot}
-use Rattle.code_units.specs.declared.scope.Scope.{Scope}
+use Rattle.code_units.specs.declared.scope.CodeScope.{CodeScope}
 use Rattle.code_pieces.specs.Pieces.{Piece, One, Then, Choice, cost, is_on, is_made, and_height, one_height, height_behind, top_of}
 use Rattle.unit_tree.specs.Costs.{node_cost, cost_of}
 use Rattle.unit_tree.specs.Names.{node_depth, depth_of}
@@ -83,7 +83,7 @@ abbrev pub NamedFits : Sizes → Option Named → Type 0
 NamedFits sizes None = ⊤
 NamedFits sizes (Some found) = PlaceFits sizes found.place × AreDecimals found.ty
 
-pub record Known (scope : Scope) : Type 0 where
+pub record Known (scope : CodeScope) : Type 0 where
   pub time : scope.time < slots_of scope.sizes
   pub step : scope.step < slots_of scope.sizes
   pub names : (name : List ℕ) → NamedFits scope.sizes (named scope.names name)
@@ -391,7 +391,7 @@ module _ (sizes : Sizes) where
 
 -- ---- All expressions
 
-module _ (scope : Scope) (known : Known scope) where
+module _ (scope : CodeScope) (known : Known scope) where
   abbrev pub Fine : Expr → Type 0
   Fine e = Good scope.sizes (code_of e scope) (is_ranged e) (depth_of e) (cost_of e)
 

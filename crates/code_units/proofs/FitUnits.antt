@@ -12,7 +12,7 @@ use Rattle.code_units.specs.Expressions.{code_of}
 use Rattle.code_units.specs.Scopes.{constants, slots_from, slot_variables, sizes_of, scope_of, named}
 use Rattle.code_units.specs.UnitPrograms.{output_code, limit_code, step_piece, program_of, IsCallable, IsRunnable, IsCompilable}
 use Rattle.code_units.specs.declared.scope.Named.{Named}
-use Rattle.code_units.specs.declared.scope.Scope.{Scope}
+use Rattle.code_units.specs.declared.scope.CodeScope.{CodeScope}
 use Rattle.code_units.proofs.FitPieces.{NamedFits, Known, type_known, fine}
 use Rattle.code_units.proofs.FitLines.{fine_lines}
 use Rattle.code_units.proofs.NamesInSlots.{param_variables, variables_are}
@@ -94,7 +94,7 @@ scope_known unit params typed =
 
 -- ---- Parts
 
-module _ (scope : Scope) (known : Known scope) where
+module _ (scope : CodeScope) (known : Known scope) where
   abbrev Callable : Expr → Type 0
   Callable value = IsCallable scope value
 

@@ -14,7 +14,7 @@ use Rattle.code_units.proofs.Frames.{CallWords, environment_at, work_at}
 use Rattle.code_units.specs.Scopes.{scope_of, named}
 use Rattle.code_units.specs.StepLines.{LineCoded, LineCoding, is_right_in, nothing, behind, target_coded, value_coded, if_coded, repeat_coded, all_coded}
 use Rattle.code_units.specs.StepLines.{node_line_code, line_code, lines_code}
-use Rattle.code_units.specs.declared.scope.Scope.{Scope}
+use Rattle.code_units.specs.declared.scope.CodeScope.{CodeScope}
 use Rattle.code_units.proofs.ExpressionsMean.{means, Gives}
 use Rattle.code_units.proofs.NamesInSlots.{Fits, sees, ChangesBehind, stores}
 use Rattle.code_pieces.specs.Pieces.{Piece, One, and_then, repeated, does}
@@ -45,7 +45,7 @@ step_is words one other =
     ∙ get_or-append_seam (words ++ (one ∷ [])) other [] (pos 0)
 
 module _ (component : Component) (time step : ℕ) where
-  abbrev scope : Scope
+  abbrev scope : CodeScope
   scope = scope_of component.unit component.params
 
   -- Work that led from some words to others.

@@ -4,7 +4,7 @@ use Rattle.std.proofs.lemmas.List.{length-map}
 use Rattle.code_units.specs.Scopes.{constants, slots_from, slot_variables, scope_of}
 use Rattle.code_units.specs.declared.scope.Named.{Named}
 use Rattle.code_units.specs.declared.scope.NamePlace.TheVariants.{Slot}
-use Rattle.code_units.specs.declared.scope.Scope.{Scope}
+use Rattle.code_units.specs.declared.scope.CodeScope.{CodeScope}
 use Rattle.code_units.proofs.FitUnits.{slots_count}
 use Rattle.unit_tree.specs.Components.{variable}
 use Rattle.unit_tree.specs.declared.environment.Variable.{Variable}
@@ -22,7 +22,7 @@ pub scope_made : (unit : Unit) (params : List ℤ) (a b c d : List Named) (state
     → locals ≡ length unit.locals → a ≡ constants unit.params params → b ≡ a ++ slots_from 0 (map (λ state. variable state.name state.ty) unit.states)
     → c ≡ b ++ slots_from states (map (λ input. variable input.name input.ty) unit.inputs)
     → d ≡ c ++ slots_from (states + inputs) (map (λ local. variable local.name local.ty) unit.locals)
-    → let made : Scope =
+    → let made : CodeScope =
     record {
       names = d;
       sizes = record { states = states; inputs = inputs; locals = locals };

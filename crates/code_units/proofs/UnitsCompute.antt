@@ -19,7 +19,7 @@ use Rattle.code_units.proofs.Frames.{CallWords, environment_at, work_at}
 use Rattle.code_units.specs.Scopes.{slot_variables, scope_of}
 use Rattle.code_units.specs.StepLines.{lines_code}
 use Rattle.code_units.specs.UnitPrograms.{output_code, limit_code, step_piece, program_of, IsCallable, IsRunnable, IsCompilable}
-use Rattle.code_units.specs.declared.scope.Scope.{Scope}
+use Rattle.code_units.specs.declared.scope.CodeScope.{CodeScope}
 use Rattle.code_units.proofs.FitPieces.{fine}
 use Rattle.code_units.proofs.FitUnits.{slots_count, scope_known, limits, step_fits, made_of_pieces}
 use Rattle.code_units.proofs.LinesMean.{step_is, Leaves, lines_follow}
@@ -85,7 +85,7 @@ module _ (component : Component) (fits : IsCompilable component.unit component.p
   abbrev program : Program
   program = program_of component.unit component.params
 
-  abbrev scope : Scope
+  abbrev scope : CodeScope
   scope = scope_of component.unit component.params
 
   facts : CodeFacts

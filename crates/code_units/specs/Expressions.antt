@@ -7,7 +7,7 @@ use Rattle.code_units.specs.Scopes.{named}
 use Rattle.code_units.specs.declared.scope.Named.{Named}
 use Rattle.code_units.specs.declared.scope.NamePlace.{NamePlace}
 use Rattle.code_units.specs.declared.scope.NamePlace.TheVariants.{Constant, Slot}
-use Rattle.code_units.specs.declared.scope.Scope.{Scope}
+use Rattle.code_units.specs.declared.scope.CodeScope.{CodeScope}
 use Rattle.code_pieces.specs.Pieces.{Piece, One, Then, Choice}
 use Rattle.unit_tree.specs.Kinds.{same_kind}
 use Rattle.unit_tree.specs.Values.{kind_of_number}
@@ -129,7 +129,7 @@ choice_joined cond then_part else_part = record {
 -- The code of one node, from the codes of its parts. An expression about events isn't in the plain form; it has the code of its
 -- word there.
 abbrev pub Coding : Type 0
-Coding = Scope → Coded
+Coding = CodeScope → Coded
 
 abbrev pub node_code : Expr-F Coding → Coding
 node_code (Expr-F.Number word decimals) scope = leaf (Push word) (kind_of_number decimals)

@@ -5,7 +5,7 @@ use Rattle.std.specs.List.{find}
 use Rattle.std.specs.Str.{bytes_eq}
 use Rattle.code_units.specs.declared.scope.Named.{Named}
 use Rattle.code_units.specs.declared.scope.NamePlace.TheVariants.{Constant, Slot}
-use Rattle.code_units.specs.declared.scope.Scope.{Scope}
+use Rattle.code_units.specs.declared.scope.CodeScope.{CodeScope}
 use Rattle.unit_tree.specs.Components.{variable}
 use Rattle.unit_tree.specs.declared.environment.Variable.{Variable}
 use Rattle.unit_tree.specs.declared.unit.Param.{Param}
@@ -33,7 +33,7 @@ abbrev pub sizes_of : Unit → Sizes
 sizes_of unit = record { states = length unit.states; inputs = length unit.inputs; locals = length unit.locals }
 
 -- The scope of a unit with these words of its parameters.
-abbrev pub scope_of : Unit → List ℤ → Scope
+abbrev pub scope_of : Unit → List ℤ → CodeScope
 scope_of unit params = record {
   names = constants unit.params params ++ slots_from 0 (slot_variables unit);
   sizes = sizes_of unit;

@@ -8,7 +8,7 @@ use Rattle.code_units.specs.Scopes.{named}
 use Rattle.code_units.specs.declared.scope.Named.{Named}
 use Rattle.code_units.specs.declared.scope.NamePlace.{NamePlace}
 use Rattle.code_units.specs.declared.scope.NamePlace.TheVariants.{Constant, Slot}
-use Rattle.code_units.specs.declared.scope.Scope.{Scope}
+use Rattle.code_units.specs.declared.scope.CodeScope.{CodeScope}
 use Rattle.code_pieces.specs.Pieces.{Piece, Nothing, One, Then, Choice, When, Turns}
 use Rattle.unit_tree.specs.Names.{depth_of}
 use Rattle.unit_tree.specs.Values.{is_ranged}
@@ -25,7 +25,7 @@ pub record LineCoded : Type 0 where
   pub piece : Piece
   pub is_right : Bool
 
-abbrev pub is_right_in : Scope → Expr → Bool
+abbrev pub is_right_in : CodeScope → Expr → Bool
 is_right_in scope value = (code_of value scope).agrees && (is_ranged value && nat_le (depth_of value) depth_limit)
 
 -- No lines; and a line before others.
@@ -52,7 +52,7 @@ abbrev pub target_coded : Sizes → Option Named → LineCoded
 target_coded sizes None = record { piece = Nothing; is_right = false }
 target_coded sizes (Some found) = record { piece = store_code found.place found.ty; is_right = may_store sizes found.place }
 
-abbrev pub value_coded : Expr → Scope → LineCoded
+abbrev pub value_coded : Expr → CodeScope → LineCoded
 value_coded value scope = record { piece = (code_of value scope).piece; is_right = is_right_in scope value }
 
 abbrev pub if_coded : LineCoded → Option LineCoded → LineCoded
@@ -64,9 +64,9 @@ abbrev pub repeat_coded : ℕ → LineCoded → LineCoded
 repeat_coded count body = record { piece = Turns count body.piece; is_right = (nat_le 1 count && nat_le count turn_limit) && body.is_right }
 
 abbrev pub LineCoding : Type 0
-LineCoding = Scope → LineCoded
+LineCoding = CodeScope → LineCoded
 
-abbrev pub all_coded : Scope → List LineCoding → LineCoded
+abbrev pub all_coded : CodeScope → List LineCoding → LineCoded
 all_coded scope lines = sequence (map (λ (line : LineCoding). line scope) lines)
 
 -- The code of one line, from the codes of the lines in its blocks.

@@ -7,7 +7,7 @@ use Rattle.fixed_words.specs.Types.{AreDecimals}
 use Rattle.code_units.specs.Expressions.{code_of}
 use Rattle.code_units.specs.Scopes.{scope_of}
 use Rattle.code_units.specs.StepLines.{is_right_in, lines_code}
-use Rattle.code_units.specs.declared.scope.Scope.{Scope}
+use Rattle.code_units.specs.declared.scope.CodeScope.{CodeScope}
 use Rattle.code_pieces.specs.Pieces.{Piece, Nothing, part_code}
 use Rattle.unit_tree.specs.Components.{variables_of}
 use Rattle.unit_tree.specs.Costs.{expression_call_cost, step_call_cost}
@@ -20,18 +20,18 @@ use Rattle.unit_vm.specs.declared.instruction.Instruction.TheVariants.{Give, Lim
 use Rattle.unit_vm.specs.declared.program.Program.{Program}
 
 -- The part of an output ends with its value as a word of its type; that of the limit ends with its value.
-abbrev pub output_code : Scope → Output → List Instruction
+abbrev pub output_code : CodeScope → Output → List Instruction
 output_code scope output = part_code (code_of output.value scope).piece (Give output.ty)
 
-abbrev pub limit_code : Scope → Expr → List Instruction
+abbrev pub limit_code : CodeScope → Expr → List Instruction
 limit_code scope value = part_code (code_of value scope).piece Limit
 
 -- The code of a step is that of its lines. Without lines it does nothing.
-abbrev pub step_piece : Scope → Option (List Line) → Piece
+abbrev pub step_piece : CodeScope → Option (List Line) → Piece
 step_piece scope None = Nothing
 step_piece scope (Some lines) = (lines_code lines scope).piece
 
-abbrev pub program_in : Scope → Unit → Program
+abbrev pub program_in : CodeScope → Unit → Program
 program_in scope unit = record {
   sizes = scope.sizes;
   outputs = map (output_code scope) unit.outputs;
@@ -45,12 +45,12 @@ program_of unit params = program_in (scope_of unit params) unit
 
 -- An expression whose call may be made: each `if` in it has one kind, it is in range and not too deep, and the call does not
 -- cost too much.
-pub record IsCallable (scope : Scope) (value : Expr) : Type 0 where
+pub record IsCallable (scope : CodeScope) (value : Expr) : Type 0 where
   pub right : is_right_in scope value ≡ true
   pub cheap : expression_call_cost value ≤ cost_limit
 
 -- Lines that may be run.
-pub record IsRunnable (scope : Scope) (lines : List Line) : Type 0 where
+pub record IsRunnable (scope : CodeScope) (lines : List Line) : Type 0 where
   pub right : (lines_code lines scope).is_right ≡ true
   pub cheap : step_call_cost lines ≤ cost_limit
 

@@ -8,7 +8,7 @@ ghost use Rattle.code_pieces.specs.Pieces.{flat, choice_code};
 ghost use Rattle.unit_tree.specs.Values.{kind_of_number};
 ghost use Rattle.unit_vm.specs.declared.instruction.Instruction.TheVariants.{Clamp};
 
-use crate::scope::{NamePlace, Scope};
+use crate::scope::{CodeScope, NamePlace};
 use code_pieces::{choice, joined};
 use fixed_words::{Kind, List, NoMemory, Ty};
 use std::alloc::Global;
@@ -197,7 +197,7 @@ fn chosen(
 }
 
 /// Returns the code of a name: a push of its word or a load of its slot. A name that is not declared has the word 0.
-fn name_value(alloc: Global, scope: &Scope, name: &[u8]) -> Result<ValueCode, NoMemory>
+fn name_value(alloc: Global, scope: &CodeScope, name: &[u8]) -> Result<ValueCode, NoMemory>
     ensures code { IfOk result (λ value. value.code ≡ flat (name_code (named scope.now.names name.now)).piece) }
     ensures kind { IfOk result (λ value. value.kind ≡ (name_code (named scope.now.names name.now)).kind) }
 {
@@ -208,7 +208,11 @@ fn name_value(alloc: Global, scope: &Scope, name: &[u8]) -> Result<ValueCode, No
 }
 
 /// Returns the code of an expression. An expression about events has the code of the word that it has in the plain form.
-pub(crate) fn value_code(alloc: Global, scope: &Scope, value: &Expr) -> Result<ValueCode, NoMemory>
+pub(crate) fn value_code(
+    alloc: Global,
+    scope: &CodeScope,
+    value: &Expr,
+) -> Result<ValueCode, NoMemory>
     ensures code { IfOk result (λ all. all.code ≡ flat (code_of value.now scope.now).piece) }
     ensures kind { IfOk result (λ all. all.kind ≡ (code_of value.now scope.now).kind) }
 {

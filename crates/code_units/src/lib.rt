@@ -16,4 +16,4 @@ mod scope;
 
 pub use laws::{codes_cost_what_trees_do, programs_compute_units, unit_programs_are_valid};
 pub use programs::program;
-pub use scope::{NamePlace, Named, Scope};
+pub use scope::{CodeScope, NamePlace, Named};

@@ -7,7 +7,7 @@ ghost use Rattle.code_pieces.specs.Pieces.{flat, choice_code, when_code};
 ghost use Rattle.unit_vm.specs.declared.instruction.Instruction.TheVariants.{Accept};
 
 use crate::expressions::value_code;
-use crate::scope::{NamePlace, Scope};
+use crate::scope::{CodeScope, NamePlace};
 use code_pieces::{choice, joined, turns, when};
 use fixed_words::{List, NoMemory};
 use std::alloc::Global;
@@ -17,7 +17,7 @@ use unit_vm::Instruction;
 /// Appends the instruction that stores a word in the target's slot to code, where the target has one.
 fn push_store(
     code: List<Instruction>,
-    scope: &Scope,
+    scope: &CodeScope,
     target: &[u8],
 ) -> Result<List<Instruction>, NoMemory>
     ensures { IfOk result (λ all. all ≡ code ++ flat (target_coded scope.now.sizes (named scope.now.names target.now)).piece) }
@@ -32,7 +32,11 @@ fn push_store(
 }
 
 /// Returns the code of `accept`.
-fn accept_code(alloc: Global, scope: &Scope, value: &Expr) -> Result<List<Instruction>, NoMemory>
+fn accept_code(
+    alloc: Global,
+    scope: &CodeScope,
+    value: &Expr,
+) -> Result<List<Instruction>, NoMemory>
     ensures { IfOk result (λ all. all ≡ flat (value_coded value.now scope.now).piece ++ (Accept ∷ [])) }
 {
     let mut code = value_code(alloc, scope, value)?.into_code();
@@ -42,7 +46,7 @@ fn accept_code(alloc: Global, scope: &Scope, value: &Expr) -> Result<List<Instru
 
 /// Returns the code of a line.
 #[cycle(lines)]
-fn line_code(alloc: Global, scope: &Scope, line: &Line) -> Result<List<Instruction>, NoMemory>
+fn line_code(alloc: Global, scope: &CodeScope, line: &Line) -> Result<List<Instruction>, NoMemory>
     ensures { IfOk result (λ code. code ≡ flat (line_code line.now scope.now).piece) }
 {
     match line {
@@ -70,7 +74,7 @@ fn line_code(alloc: Global, scope: &Scope, line: &Line) -> Result<List<Instructi
 #[cycle(lines)]
 pub(crate) fn lines_code(
     alloc: Global,
-    scope: &Scope,
+    scope: &CodeScope,
     lines: &[Line],
 ) -> Result<List<Instruction>, NoMemory>
     ensures { IfOk result (λ code. code ≡ flat (lines_code lines.now scope.now).piece) }

@@ -2,6 +2,7 @@ ghost use Rattle.std.specs.Prelude.{◌≡◌, ◌≤◌, ◌+◌, ◌<◌, ◌^
 ghost use Rattle.std.specs.Option.{option_copied};
 ghost use Rattle.code_units.specs.Scopes.{constants, slots_from, scope_of, named};
 ghost use Rattle.unit_tree.specs.Components.{variable};
+ghost use Rattle.model_rules.specs.Limits.{input_limit, local_limit, state_limit};
 
 use fixed_words::{List, NoMemory, Ty};
 use std::alloc::Global;
@@ -27,7 +28,7 @@ pub struct Named {
 
 /// The names and slots that the code of a unit may use.
 #[derive(Debug, Drop)]
-pub struct Scope {
+pub struct CodeScope {
     /// Parameters, states, inputs and locals, in this order. If some have one name, the first counts.
     pub names: List<Named>,
     /// How many slots of each kind the frame has.
@@ -136,13 +137,13 @@ fn push_slots<T: Declared>(
     Ok(())
 }
 
-impl Scope {
+impl CodeScope {
     /// Returns the scope of a unit with these words of its parameters.
-    pub fn new(alloc: Global, unit: &Unit, params: &[i64]) -> Result<Scope, NoMemory>
+    pub fn new(alloc: Global, unit: &Unit, params: &[i64]) -> Result<CodeScope, NoMemory>
         requires one_each { length params.now ≡ length unit.now.params }
-        requires states { length unit.now.states ≤ 64 }
-        requires inputs { length unit.now.inputs ≤ 32 }
-        requires locals { length unit.now.locals ≤ 64 }
+        requires states { length unit.now.states ≤ state_limit }
+        requires inputs { length unit.now.inputs ≤ input_limit }
+        requires locals { length unit.now.locals ≤ local_limit }
         ensures { IfOk result (λ scope. scope ≡ scope_of unit.now params.now) }
     {
         let states = unit.states.len() as u32;
@@ -153,7 +154,7 @@ impl Scope {
         push_slots(alloc, &mut names, 0, unit.states.as_slice())?;
         push_slots(alloc, &mut names, states, unit.inputs.as_slice())?;
         push_slots(alloc, &mut names, states + inputs, unit.locals.as_slice())?;
-        Ok(Scope {
+        Ok(CodeScope {
             names,
             sizes: Sizes {
                 states,

@@ -2,7 +2,7 @@
 use Rattle.std.specs.Prelude.{ℕ, Bool, true, false, nat_le, List, [], ◌∷◌, ◌≤◌, length, codes, IfSome, Option, Some, None, if◌then◌else◌, ⊤}
 use Rattle.std.specs.Option.{option_map, unwrap_or}
 use Rattle.std.specs.Str.{bytes_eq}
-use Rattle.model_rules.specs.Limits.{rows_limit, text_limit}
+use Rattle.model_rules.specs.Limits.{round_limit, rows_limit, text_limit, window_limit, worker_limit}
 use Rattle.guess_board.specs.declared.guesses.Policy.TheVariants.{Hold}
 use Rattle.command_line.specs.Generations.{Asked, CanGive, asked_by}
 use Rattle.command_line.specs.Options.{◌>>=◌, given_by, is_given_none}
@@ -28,8 +28,8 @@ generation_of given = asked_by given >>= λ asked. without_options asked (record
 -- `hold`; and whether to report.
 abbrev pub running_of : Given → Option Running
 running_of given = do
-  workers ← within_or 0 16 0 given.workers
-  window ← within_or 0 16 4 given.window
+  workers ← within_or 0 worker_limit 0 given.workers
+  window ← within_or 0 window_limit 4 given.window
   without_options (record { workers = workers; window = window; guess = unwrap_or given.guess Hold; report = given.report })
       (record given { workers = None; window = None; guess = None; report = false })
 
@@ -37,7 +37,7 @@ running_of given = do
 abbrev pub replaying_of : Given → Option Replaying
 replaying_of given = do
   seed ← given.seed
-  workers ← required_within 0 16 given.workers
+  workers ← required_within 0 worker_limit given.workers
   without_options (record { seed = seed; workers = workers }) (record given { seed = None; workers = None })
 
 -- What `save` is given: a row from 0 to 99,999, and nothing else.
@@ -50,7 +50,7 @@ saving_of given = do
 abbrev pub splitting_of : Given → Option Splitting
 splitting_of given = do
   seed ← given.seed
-  rounds ← required_within 1 rows_limit given.rounds
+  rounds ← required_within 1 round_limit given.rounds
   without_options (record { seed = seed; rounds = rounds }) (record given { seed = None; rounds = None })
 
 -- The command of a word with the given options. There is a row for each command, with the options that it takes.

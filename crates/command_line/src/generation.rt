@@ -6,16 +6,23 @@ use crate::options::Given;
 use crate::ranges::Within;
 use cosim_gen::generate;
 use fixed_words::NoMemory;
+use model_rules::{MOST_CELLS, MOST_INSTANCES, MOST_ROWS};
 use std::alloc::Global;
 use std::marker::Model;
 use unit_tree::System;
 
-type Instances = Within<1, 64>;
+const GREATEST_INSTANCES: u64 = MOST_INSTANCES as u64;
 
-type Rows = Within<1, 100_000>;
+const GREATEST_ROWS: u64 = MOST_ROWS as u64;
+
+const GREATEST_CELLS: u64 = MOST_CELLS as u64;
+
+type Instances = Within<1, GREATEST_INSTANCES>;
+
+type Rows = Within<1, GREATEST_ROWS>;
 
 /// Rows times components.
-type Cells = Within<1, 1_000_000>;
+type Cells = Within<1, GREATEST_CELLS>;
 
 /// The system that a command asks of the generator: by a seed, of so many components, and for so many rows. There always is one.
 #[derive(Clone, Copy, Debug, PartialEq, Eq)]

@@ -6,12 +6,13 @@ use crate::commands::without_options;
 use crate::options::Given;
 use crate::ranges::Within;
 use guess_board::Policy;
+use model_rules::{LONGEST_WINDOW, MOST_WORKERS};
 
 /// How many workers step components ahead.
-pub type Workers = Within<0, 16>;
+pub type Workers = Within<0, MOST_WORKERS>;
 
 /// For how many rows inputs are guessed.
-pub type Window = Within<0, 16>;
+pub type Window = Within<0, LONGEST_WINDOW>;
 
 /// How a system is run.
 #[derive(Clone, Copy, Debug, PartialEq, Eq)]

@@ -5,9 +5,10 @@ ghost use Rattle.command_line.specs.Commands.{splitting_of};
 use crate::commands::without_options;
 use crate::options::Given;
 use crate::ranges::Within;
+use model_rules::MOST_ROUNDS;
 
 /// How many rounds two nodes make.
-pub type Rounds = Within<1, 100_000>;
+pub type Rounds = Within<1, MOST_ROUNDS>;
 
 /// The seed by which facts between two nodes are lost, and for how many rounds the nodes run.
 #[derive(Clone, Copy, Debug, PartialEq, Eq)]

@@ -1,5 +1,5 @@
 -- The limits of texts, systems, components and traces. The code has the same ones in `limits.rt`.
-use Rattle.std.specs.Prelude.{ℕ}
+use Rattle.std.specs.Prelude.{ℕ, ◌==◌, if◌then◌else◌}
 
 -- The most bytes of a text, with one end counted for each line.
 abbrev pub text_limit : ℕ
@@ -84,3 +84,27 @@ cell_limit = 1000000
 -- The most steps without length in one row.
 abbrev pub zero_limit : ℕ
 zero_limit = 10000
+
+-- The most steps without length in one row, where a text of this version gives none.
+abbrev pub default_zeros : ℕ → ℕ
+default_zeros version = if version == 2 then 1000 else 100
+
+-- The most rows of a trace, where a text of this version gives none and has so few instances that they are allowed.
+abbrev pub default_rows_limit : ℕ → ℕ
+default_rows_limit version = if version == 2 then 10000 else rows_limit
+
+-- The most words on the stack of a component's code.
+abbrev pub height_limit : ℕ
+height_limit = 64
+
+-- The most workers of a run.
+abbrev pub worker_limit : ℕ
+worker_limit = 16
+
+-- The most rows for which inputs are guessed.
+abbrev pub window_limit : ℕ
+window_limit = 16
+
+-- The most rounds of two nodes.
+abbrev pub round_limit : ℕ
+round_limit = 100000

@@ -62,3 +62,24 @@ pub const MOST_CELLS: u32 = 1_000_000;
 
 /// The most steps without length in one row.
 pub const MOST_ZERO_STEPS: u32 = 10_000;
+
+/// The most steps without length in one row, where a text of version 1 gives none.
+pub const DEFAULT_ZERO_STEPS: u32 = 100;
+
+/// The most steps without length in one row, where a text of version 2 gives none.
+pub const DEFAULT_ZERO_STEPS_WITH_EVENTS: u32 = 1_000;
+
+/// The most rows of a trace, where a text of version 2 gives none. In version 1 it is [`MOST_ROWS`].
+pub const DEFAULT_ROWS_WITH_EVENTS: u32 = 10_000;
+
+/// The most words on the stack of a component's code.
+pub const GREATEST_HEIGHT: u32 = 64;
+
+/// The most workers of a run.
+pub const MOST_WORKERS: u64 = 16;
+
+/// The most rows for which inputs are guessed.
+pub const LONGEST_WINDOW: u64 = 16;
+
+/// The most rounds of two nodes.
+pub const MOST_ROUNDS: u64 = 100_000;

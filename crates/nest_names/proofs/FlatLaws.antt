@@ -13,7 +13,7 @@ use Rattle.nest_names.proofs.NamedLists.{any_at, any_named}
 use Rattle.nest_names.specs.Flattening.{binds_of, distinct, expand, follow, ins_in, inside, is_component, out_in, place_at, reach, same_group, same_spot, spot_in, step_down}
 use Rattle.unit_tree.specs.declared.system.PortName.{PortName}
 use Rattle.nest_names.specs.declared.scope.Below.{Below}
-use Rattle.nest_names.specs.declared.scope.Scope.{Scope}
+use Rattle.nest_names.specs.declared.scope.GroupScope.{GroupScope}
 use Rattle.nest_names.specs.declared.scope.Spot.{Spot}
 
 one_less : (depth : ℕ) → depth ≡ suc depth - 1
@@ -24,12 +24,12 @@ pub step_some : (nest : Nest) (spot : Spot) (place : ℕ) (bind : Bind) → plac
     → step_down nest spot ≡ Some (record { scope = inside spot.scope spot.port.instance place; port = bind.inner })
 step_some nest spot place bind at is =
     ap
-    (λ found. option_and_then (λ (scope : Scope). option_map (spot_in scope) (out_in nest scope spot.port.port))
+    (λ found. option_and_then (λ (scope : GroupScope). option_map (spot_in scope) (out_in nest scope spot.port.port))
     (option_map (inside spot.scope spot.port.instance) found)) at
     ∙ ap (option_map (spot_in (inside spot.scope spot.port.instance place))) is
 
 -- The output that is one level below an output of a group.
-abbrev pub below_in : Scope → PortName → Below → Spot
+abbrev pub below_in : GroupScope → PortName → Below → Spot
 below_in scope port below = record { scope = inside scope port.instance below.place; port = below.line.now.inner }
 
 pub follow_more : (nest : Nest) (depth : ℕ) (spot next : Spot) → (depth ≡ 0 → ⊥) → step_down nest spot ≡ Some next
@@ -56,7 +56,7 @@ pub expand_group : (nest : Nest) (spot : Spot) (place : ℕ) → place_at nest s
     (filter (λ bind. bytes_eq bind.port spot.port.port) (binds_of nest (λ (group : Group). group.ins) (Some place)))
 expand_group nest spot place at =
     ap
-    (λ found. unwrap_or (option_map (λ (scope : Scope). map (spot_in scope) (ins_in nest scope spot.port.port))
+    (λ found. unwrap_or (option_map (λ (scope : GroupScope). map (spot_in scope) (ins_in nest scope spot.port.port))
     (option_map (inside spot.scope spot.port.instance) found)) (spot ∷ [])) at
 
 -- ---- Ports that are kept once

@@ -1,3 +1,4 @@
 pub mod FlatLaws
 pub mod NamedLists
+pub mod SameSpots
 pub mod TableLaws

@@ -15,7 +15,7 @@ use Rattle.unit_tree.specs.declared.system.Wire.{Wire}
 use Rattle.nest_text.specs.declared.nest.Bind.{Bind}
 use Rattle.nest_text.specs.declared.nest.Group.{Group}
 use Rattle.nest_text.specs.declared.nest.Nest.{Nest}
-use Rattle.nest_names.specs.declared.scope.Scope.{Scope}
+use Rattle.nest_names.specs.declared.scope.GroupScope.{GroupScope}
 use Rattle.nest_names.specs.declared.scope.Spot.{Spot}
 
 -- ---- Names
@@ -47,22 +47,22 @@ instance_among instances name = find (λ instance. bytes_eq instance.name name) 
 
 -- ---- Scopes
 
-abbrev pub top : Scope
+abbrev pub top : GroupScope
 top = record { prefix = []; group = None }
 
 -- The scope inside an instance of the group at a place.
-abbrev pub inside : Scope → List ℕ → ℕ → Scope
+abbrev pub inside : GroupScope → List ℕ → ℕ → GroupScope
 inside scope name place = record { prefix = scope.prefix ++ (name ++ 95 ∷ []); group = Some place }
 
 -- The scope inside an instance, if its unit is a group.
-abbrev pub scope_of : Nest → Scope → Instance → Option Scope
+abbrev pub scope_of : Nest → GroupScope → Instance → Option GroupScope
 scope_of nest scope instance = option_map (inside scope instance.name) (group_place nest instance.unit)
 
 -- The place of the group of the instance with a name, and the scope inside it.
 abbrev pub place_at : Nest → Option ℕ → List ℕ → Option ℕ
 place_at nest group name = option_and_then (λ instance. group_place nest instance.unit) (instance_among (instances_of nest group) name)
 
-abbrev pub scope_at : Nest → Scope → List ℕ → Option Scope
+abbrev pub scope_at : Nest → GroupScope → List ℕ → Option GroupScope
 scope_at nest scope name = option_map (inside scope name) (place_at nest scope.group name)
 
 -- How deep scopes may be nested. A flat name has a `_` for each instance around it, and at most 32 bytes, so no deeper
@@ -72,11 +72,11 @@ levels = 33
 
 -- ---- Components
 
-abbrev pub named_in : Scope → Instance → Instance
+abbrev pub named_in : GroupScope → Instance → Instance
 named_in scope instance = record instance { name = scope.prefix ++ instance.name }
 
 -- The components in a scope, depth first: an instance of a unit itself, and for an instance of a group those inside it.
-abbrev pub leaves : Nest → ℕ → Scope → List Instance
+abbrev pub leaves : Nest → ℕ → GroupScope → List Instance
 leaves nest zero scope = map (named_in scope) (instances_of nest scope.group)
 leaves nest (suc depth) scope =
     flat_map (λ instance. unwrap_or (option_map (leaves nest depth) (scope_of nest scope instance)) (named_in scope instance ∷ []))
@@ -88,14 +88,14 @@ leaves nest (suc depth) scope =
 abbrev pub flat_port : Spot → PortName
 flat_port spot = record { instance = spot.scope.prefix ++ spot.port.instance; port = spot.port.port }
 
-abbrev pub spot_in : Scope → Bind → Spot
+abbrev pub spot_in : GroupScope → Bind → Spot
 spot_in scope bind = record { scope = scope; port = bind.inner }
 
 -- The `in` and `out` lines of the group of a scope that have this port.
-abbrev pub ins_in : Nest → Scope → List ℕ → List Bind
+abbrev pub ins_in : Nest → GroupScope → List ℕ → List Bind
 ins_in nest scope port = filter (λ bind. bytes_eq bind.port port) (binds_of nest (λ group. group.ins) scope.group)
 
-abbrev pub out_in : Nest → Scope → List ℕ → Option Bind
+abbrev pub out_in : Nest → GroupScope → List ℕ → Option Bind
 out_in nest scope port = find (λ bind. bytes_eq bind.port port) (binds_of nest (λ group. group.outs) scope.group)
 
 -- From an output of a group to the inner output of its `out` line, one level down.
@@ -139,14 +139,14 @@ reach nest (suc depth) spots =
 -- ---- Connections
 
 -- What a connection of a scope becomes: one connection for each input that it reaches.
-abbrev pub flat_wire : Nest → Scope → Wire → List Wire
+abbrev pub flat_wire : Nest → GroupScope → Wire → List Wire
 flat_wire nest scope wire =
     map
     (λ to. record { from = flat_port (follow nest levels (record { scope = scope; port = wire.from })); to = flat_port to })
     (reach nest levels (record { scope = scope; port = wire.to } ∷ []))
 
 -- The connections in a scope: its own, and then those inside each of its instances.
-abbrev pub flat_wires : Nest → ℕ → Scope → List Wire
+abbrev pub flat_wires : Nest → ℕ → GroupScope → List Wire
 flat_wires nest zero scope = flat_map (flat_wire nest scope) (wires_of nest scope.group)
 flat_wires nest (suc depth) scope =
     flat_map (flat_wire nest scope) (wires_of nest scope.group)

@@ -1,6 +1,6 @@
 //! The names of nests: tables of the names in a nest, and the scopes that they are in.
 //!
-//! The layers above use [`NestNames`], which contracts see as the nest, [`Scope`] and [`Spot`], and the functions that
+//! The layers above use [`NestNames`], which contracts see as the nest, [`GroupScope`] and [`Spot`], and the functions that
 //! go from scope to scope: [`follow`] goes down from an output of a group to a component's, [`reach`] from an input to
 //! those of components.
 //!
@@ -16,7 +16,7 @@ mod tables;
 pub use lists::PlacesByName;
 pub use names::{GroupNames, NestNames};
 pub use scope::{
-    LEVELS, Scope, Spot, copied_name, copied_port, copied_scope, distinct, flat_name, flat_port,
-    follow, inside, put_bind, reach, same_group, same_port, same_scope, spot_of, top,
+    GroupScope, LEVELS, Spot, copied_name, copied_port, copied_scope, distinct, flat_name,
+    flat_port, follow, inside, put_bind, reach, same_group, same_port, same_scope, spot_of, top,
 };
 pub use tables::{BindNames, InstanceNames, Places, at, note, noted};

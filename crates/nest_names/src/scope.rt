@@ -1,5 +1,5 @@
 //! Scopes of a nest, and ports that are followed from scope to scope.
-ghost use Rattle.std.specs.Prelude.{◌≡◌, [], ◌++◌, IfOk, IsTrue, OnOk, map, slice_get, false};
+ghost use Rattle.std.specs.Prelude.{◌≡◌, ◌↔◌, [], ◌++◌, IfOk, IsTrue, OnOk, map, slice_get, false};
 ghost use Rattle.std.specs.Borrow.{Bor};
 ghost use Rattle.std.specs.Option.{option_map, option_to_list, unwrap_or};
 ghost use Rattle.nest_text.specs.declared.nest.Bind.{Bind as Binds};
@@ -17,7 +17,7 @@ use unit_tree::{Name, PortName};
 
 /// The scope of an instance: `main`, or an instance of a group.
 #[derive(Debug, Drop)]
-pub struct Scope {
+pub struct GroupScope {
     /// The names of the instances around it, each with a `_` after it.
     pub prefix: Name,
     /// The place of the group; none in `main`.
@@ -28,10 +28,10 @@ pub struct Scope {
 pub const LEVELS: usize = 33;
 
 /// The scope of `main`.
-pub fn top(alloc: Global) -> Scope
+pub fn top(alloc: Global) -> GroupScope
     ensures { result ≡ top }
 {
-    Scope {
+    GroupScope {
         prefix: List::new(alloc),
         group: None,
     }
@@ -40,7 +40,7 @@ pub fn top(alloc: Global) -> Scope
 /// A port of an instance in a scope.
 #[derive(Debug, Drop)]
 pub struct Spot {
-    pub scope: Scope,
+    pub scope: GroupScope,
     pub port: PortName,
 }
 
@@ -54,7 +54,7 @@ fn joined(alloc: Global, front: &[u8], behind: &[u8]) -> Result<Name, NoMemory>
 }
 
 /// A name in a scope, as a name of the flat system.
-pub fn flat_name(alloc: Global, scope: &Scope, name: &Name) -> Result<Name, NoMemory>
+pub fn flat_name(alloc: Global, scope: &GroupScope, name: &Name) -> Result<Name, NoMemory>
     ensures { IfOk result (λ made. made ≡ scope.now.prefix ++ name.now) }
 {
     joined(alloc, scope.prefix.as_slice(), name.as_slice())
@@ -77,17 +77,17 @@ pub fn copied_port(alloc: Global, port: &PortName) -> Result<PortName, NoMemory>
 }
 
 /// A copy of a scope.
-pub fn copied_scope(alloc: Global, scope: &Scope) -> Result<Scope, NoMemory>
+pub fn copied_scope(alloc: Global, scope: &GroupScope) -> Result<GroupScope, NoMemory>
     ensures { IfOk result (λ made. made ≡ scope.now) }
 {
-    Ok(Scope {
+    Ok(GroupScope {
         prefix: copied_name(alloc, &scope.prefix)?,
         group: scope.group,
     })
 }
 
 /// A port in a scope, which is moved.
-fn port_in(alloc: Global, scope: Scope, port: &PortName) -> Result<Spot, NoMemory>
+fn port_in(alloc: Global, scope: GroupScope, port: &PortName) -> Result<Spot, NoMemory>
     ensures { IfOk result (λ made. made ≡ record { scope = scope; port = port.now }) }
 {
     let port = copied_port(alloc, port)?;
@@ -95,7 +95,7 @@ fn port_in(alloc: Global, scope: Scope, port: &PortName) -> Result<Spot, NoMemor
 }
 
 /// A port in a scope.
-pub fn spot_of(alloc: Global, scope: &Scope, port: &PortName) -> Result<Spot, NoMemory>
+pub fn spot_of(alloc: Global, scope: &GroupScope, port: &PortName) -> Result<Spot, NoMemory>
     ensures { IfOk result (λ made. made ≡ record { scope = scope.now; port = port.now }) }
 {
     let scope = copied_scope(alloc, scope)?;
@@ -103,20 +103,25 @@ pub fn spot_of(alloc: Global, scope: &Scope, port: &PortName) -> Result<Spot, No
 }
 
 /// The scope inside an instance of the group at a place, made from the scope around it.
-fn entered(scope: Scope, name: &Name, place: usize) -> Result<Scope, NoMemory>
+fn entered(scope: GroupScope, name: &Name, place: usize) -> Result<GroupScope, NoMemory>
     ensures { IfOk result (λ made. made ≡ inside scope name.now place) }
 {
     let mut bytes = scope.prefix.into_vec();
     bytes.extend_from_slice(name.as_slice())?;
     bytes.push(b'_')?;
-    Ok(Scope {
+    Ok(GroupScope {
         prefix: List::from_vec(bytes),
         group: Some(place),
     })
 }
 
 /// The scope inside an instance of the group at a place.
-pub fn inside(alloc: Global, scope: &Scope, name: &Name, place: usize) -> Result<Scope, NoMemory>
+pub fn inside(
+    alloc: Global,
+    scope: &GroupScope,
+    name: &Name,
+    place: usize,
+) -> Result<GroupScope, NoMemory>
     ensures { IfOk result (λ made. made ≡ inside scope.now name.now place) }
 {
     let scope = copied_scope(alloc, scope)?;
@@ -142,7 +147,7 @@ struct Below<'n> {
 }
 
 /// From an output of a group to the inner output of its `out` line, one level down.
-fn step_down<'n>(names: &NestNames<'n>, scope: &Scope, port: &PortName) -> Option<Below<'n>>
+fn step_down<'n>(names: &NestNames<'n>, scope: &GroupScope, port: &PortName) -> Option<Below<'n>>
     ensures { option_map (λ below. record { scope = inside scope.now port.now.instance below.place; port = below.line.now.inner }) result
         ≡ step_down names.now (record { scope = scope.now; port = port.now }) }
 {
@@ -156,7 +161,7 @@ pub fn follow(
     alloc: Global,
     names: &NestNames<'_>,
     depth: usize,
-    scope: Scope,
+    scope: GroupScope,
     port: &PortName,
 ) -> Result<Spot, NoMemory>
     ensures { IfOk result (λ made. made ≡ follow names.now depth (record { scope = scope; port = port.now })) }
@@ -190,7 +195,7 @@ fn are_components(names: &NestNames<'_>, spots: &[Spot]) -> bool
 /// Appends the inner port of a line, if there is a line.
 pub fn put_bind(
     alloc: Global,
-    scope: &Scope,
+    scope: &GroupScope,
     bind: Option<&Bind>,
     spots: &mut List<Spot>,
 ) -> Result<(), NoMemory>
@@ -241,8 +246,10 @@ pub fn same_port(one: &PortName, other: &PortName) -> bool
         && one.port.as_slice() == other.port.as_slice()
 }
 
-pub fn same_scope(one: &Scope, other: &Scope) -> bool
-    ensures { IsTrue result → one.now ≡ other.now }
+/// Returns whether two scopes are equal.
+#[tactic(auto, using(crate::proofs::SameSpots::scope_is, crate::proofs::SameSpots::scope_self))]
+pub fn same_scope(one: &GroupScope, other: &GroupScope) -> bool
+    ensures { IsTrue result ↔ (one.now ≡ other.now) }
 {
     one.prefix.as_slice() == other.prefix.as_slice() && same_group(one.group, other.group)
 }

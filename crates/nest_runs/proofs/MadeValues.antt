@@ -21,7 +21,8 @@ use Rattle.nest_runs.specs.NestTrace.{PortValues, AreCarried, IsFed}
 use Rattle.nest_runs.specs.SoundNests.{IsSound}
 use Rattle.nest_runs.proofs.ListLaws.{any_passes, passes_any, contained, contains, finds, found_has}
 use Rattle.nest_runs.proofs.ScopeLaws.{made_of}
-use Rattle.nest_runs.proofs.WayLaws.{Way, last_step, same_spots, spots_same, way_more, way_short, follow_stays, follow_next, follow_stable}
+use Rattle.nest_names.proofs.SameSpots.{spot_is, spot_self}
+use Rattle.nest_runs.proofs.WayLaws.{Way, last_step, way_more, way_short, follow_stays, follow_next, follow_stable}
 use Rattle.nest_runs.proofs.WayLaws.{followed_leaf, step_out}
 use Rattle.nest_runs.proofs.WayLaws.{next_out_there, step_deeper, way_deeper}
 use Rattle.nest_runs.proofs.WireLaws.{Connection, ends, source, component_port, group_port, group_meant, all, flat, standing, among_all, ends_keep}
@@ -38,11 +39,11 @@ same_ports : (one other : NestPort) → same_nest_port one other ≡ true → on
 same_ports (OfComponent one) (OfComponent other) is = ap OfComponent (same_port_is one other is)
 same_ports (OfComponent one) (OfGroup other) is = absurd (cc)
 same_ports (OfGroup one) (OfComponent other) is = absurd (cc)
-same_ports (OfGroup one) (OfGroup other) is = ap OfGroup (same_spots one other is)
+same_ports (OfGroup one) (OfGroup other) is = ap OfGroup (spot_is one other is)
 
 ports_same : (one : NestPort) → same_nest_port one one ≡ true
 ports_same (OfComponent one) = same_port_of one one refl
-ports_same (OfGroup one) = spots_same one
+ports_same (OfGroup one) = spot_self one
 
 -- ---- The ports on the paths of an input
 

@@ -11,7 +11,6 @@ use Rattle.std.proofs.lemmas.List.{length-append}
 use Rattle.std.proofs.lemmas.Option.{same_Some, slice_get_within}
 use Rattle.unit_tree.specs.Names.{is_among, is_empty, input_names, output_names, unit_named}
 use Rattle.unit_tree.specs.Parts as parts
-use Rattle.unit_tree.specs.Tokens.{IsWord}
 use Rattle.unit_tree.specs.declared.line_form.LineForm.TheVariants as form
 use Rattle.unit_tree.specs.declared.system.Instance.{Instance}
 use Rattle.unit_tree.specs.declared.system.PortName.{PortName}
@@ -28,7 +27,7 @@ use Rattle.sub_flat.specs.GroupTests.{is_misnamed, has_wrong_name, is_there, mis
 use Rattle.sub_flat.specs.GroupTests.{misbinds}
 use Rattle.nest_names.specs.GroupPorts.{says_out_twice}
 use Rattle.sub_flat.specs.GroupTests.{misses_port, main_misses_port, sets_group}
-use Rattle.nest_names.specs.declared.scope.Scope.{Scope}
+use Rattle.nest_names.specs.declared.scope.GroupScope.{GroupScope}
 use Rattle.sub_flat.proofs.SearchLaws.{place_within}
 use Rattle.language_laws.proofs.NameLaws.{same_bytes}
 use Rattle.language_laws.proofs.PlainNames.{has_flat, has_part, words_on, units, instances, wires}
@@ -38,6 +37,7 @@ use Rattle.nest_runs.specs.SoundNests.{IsSound}
 use Rattle.nest_runs.specs.NestPorts.{IsInside, IsScopeAt}
 use Rattle.nest_runs.proofs.SoundLaws.{flat_ranged}
 use Rattle.nest_runs.proofs.ListLaws.{contained, contains, fails_any, found_has}
+use Rattle.text_laws.proofs.TokenWidths.{word_short}
 
 -- ---- Small things
 
@@ -66,19 +66,15 @@ name_long prefix name =
     let behind = length-append name (95 ∷ []) in
     omega (arith, whole, behind)
 
-word_short : (name : List ℕ) → IsWord name → length name ≤ 32
-word_short [] word = absurd word
-word_short (first ∷ others) word = omega (arith, word.2)
-
 module _ (nest : Nest) where
   -- ---- Scopes inside scopes
 
   -- The scope inside an instance, by the place of its group.
-  pub inside_made : (outer scope : Scope) (here : IsInside nest outer scope)
+  pub inside_made : (outer scope : GroupScope) (here : IsInside nest outer scope)
       → Made (inside outer here.instance.name) (group_place nest here.instance.unit) scope
   inside_made outer scope here = made_of (inside outer here.instance.name) (group_place nest here.instance.unit) scope here.leads
 
-  pub scope_inside : (scope next : Scope) (name : List ℕ) → scope_at nest scope name ≡ Some next → IsInside nest scope next
+  pub scope_inside : (scope next : GroupScope) (name : List ℕ) → scope_at nest scope name ≡ Some next → IsInside nest scope next
   scope_inside scope next name is =
       let made = made_of (inside scope name) (place_at nest scope.group name) next is in
       let led = led_by (λ (instance : Instance). group_place nest instance.unit)
@@ -93,13 +89,13 @@ module _ (nest : Nest) where
       }
 
   -- A scope is at most as deep as its prefix is long.
-  pub prefix_long : (depth : ℕ) (scope : Scope) → IsScopeAt nest depth scope → depth ≤ length scope.prefix
+  pub prefix_long : (depth : ℕ) (scope : GroupScope) → IsScopeAt nest depth scope → depth ≤ length scope.prefix
   prefix_long zero scope is = omega arith
   prefix_long (suc depth) scope is =
       let made = inside_made is.0 scope is.2 in
       let outer = prefix_long depth is.0 is.1 in
       let more = name_long is.0.prefix is.2.instance.name in
-      let same : length (is.0.prefix ++ (is.2.instance.name ++ 95 ∷ [])) ≡ length scope.prefix = ap (λ (s : Scope). length s.prefix) made.is in
+      let same : length (is.0.prefix ++ (is.2.instance.name ++ 95 ∷ [])) ≡ length scope.prefix = ap (λ (s : GroupScope). length s.prefix) made.is in
       omega (arith, outer, more, same)
 
   -- ---- What a group at a place has
@@ -113,7 +109,7 @@ module _ (nest : Nest) where
 
   -- ---- The components in a scope are among all
 
-  pub leaf_of_scope : (all : ℕ) (leaf : Instance) (depth : ℕ) (scope : Scope) (rest : ℕ) → IsScopeAt nest depth scope → depth + rest ≡ all
+  pub leaf_of_scope : (all : ℕ) (leaf : Instance) (depth : ℕ) (scope : GroupScope) (rest : ℕ) → IsScopeAt nest depth scope → depth + rest ≡ all
       → Has (leaves nest rest scope) leaf → Has (leaves nest all top) leaf
   leaf_of_scope all leaf zero scope rest is sum has =
       let same : rest ≡ all = omega (arith, sum) in
@@ -185,19 +181,19 @@ module _ (nest : Nest) (sound : IsSound nest) where
       by (instance ∷ others) some = (instance, inl refl)
 
   -- A scope of a group has an instance.
-  has_instance : (depth : ℕ) (scope : Scope) → IsScopeAt nest (suc depth) scope → (instance : Instance) × Has (instances_of nest scope.group) instance
+  has_instance : (depth : ℕ) (scope : GroupScope) → IsScopeAt nest (suc depth) scope → (instance : Instance) × Has (instances_of nest scope.group) instance
   has_instance depth scope is =
       let made = inside_made nest is.0 scope is.2 in
       let group = group_at nest is.2.instance.unit made.one made.there in
       let named = well_named made.one group.0 group.1 in
       let some = first_instance group.0 (either_false (has_wrong_name nest group.0) (is_empty group.0.instances) named).1 in (
         some.0,
-        subst (λ (s : Scope). Has (instances_of nest s.group) some.0) made.is
+        subst (λ (s : GroupScope). Has (instances_of nest s.group) some.0) made.is
             (subst (λ xs. Has xs some.0) (sym (group_has nest (λ g. g.instances) made.one group.0 group.1)) some.1),
       )
 
   -- No scope is as deep as the number of levels that are visited.
-  none_so_deep : (depth : ℕ) (scope : Scope) → suc depth ≡ levels → IsScopeAt nest (suc depth) scope → ⊥
+  none_so_deep : (depth : ℕ) (scope : GroupScope) → suc depth ≡ levels → IsScopeAt nest (suc depth) scope → ⊥
   none_so_deep depth scope deep is =
       let some = has_instance depth scope is in
       let leaf = named_in scope some.0 in
@@ -208,16 +204,16 @@ module _ (nest : Nest) (sound : IsSound nest) where
       let whole = length-append scope.prefix some.0.name in
       omega (arith, deep, short, long, whole)
 
-  deeper : (more depth : ℕ) (scope : Scope) → depth ≡ more + levels → IsScopeAt nest depth scope → ⊥
+  deeper : (more depth : ℕ) (scope : GroupScope) → depth ≡ more + levels → IsScopeAt nest depth scope → ⊥
   deeper zero zero scope sum is = absurd (omega (arith, sum))
   deeper zero (suc depth) scope sum is = none_so_deep depth scope (omega (arith, sum)) is
   deeper (suc more) zero scope sum is = absurd (omega (arith, sum))
   deeper (suc more) (suc depth) scope sum is = deeper more depth is.0 (omega (arith, sum)) is.1
 
-  not_deep : (depth : ℕ) (scope : Scope) → levels ≤ depth → IsScopeAt nest depth scope → ⊥
+  not_deep : (depth : ℕ) (scope : GroupScope) → levels ≤ depth → IsScopeAt nest depth scope → ⊥
   not_deep depth scope deep is = deeper (depth - levels) depth scope (omega (arith, deep)) is
 
-  pub scope_short : (depth : ℕ) (scope : Scope) → IsScopeAt nest depth scope → suc depth ≤ levels
+  pub scope_short : (depth : ℕ) (scope : GroupScope) → IsScopeAt nest depth scope → suc depth ≤ levels
   scope_short depth scope is = by (nat_lt 32 depth) refl
     where
       by : (told : Bool) → nat_lt 32 depth ≡ told → suc depth ≤ levels
@@ -280,23 +276,23 @@ module _ (nest : Nest) (sound : IsSound nest) where
       }
 
   -- The ends of the connections of a scope exist.
-  pub ends_there : (depth : ℕ) (scope : Scope) → IsScopeAt nest depth scope → (wire : Wire) → Has (wires_of nest scope.group) wire
+  pub ends_there : (depth : ℕ) (scope : GroupScope) → IsScopeAt nest depth scope → (wire : Wire) → Has (wires_of nest scope.group) wire
       → EndsThere scope.group wire
   ends_there zero scope is wire has =
       let main = either_false (list_any (wire_misses nest nest.main.instances) nest.main.wires)
       (list_any (misses nest (has_output nest) nest.main.instances) nest.main.samples || list_any (sets_group nest) nest.main.instances)
       main_ports_there in
-      subst (λ (s : Scope). EndsThere s.group wire) (sym is)
+      subst (λ (s : GroupScope). EndsThere s.group wire) (sym is)
       (ends_by None wire (fails_any (wire_misses nest nest.main.instances) nest.main.wires wire main.0
-      (subst (λ (s : Scope). Has (wires_of nest s.group) wire) is has)))
+      (subst (λ (s : GroupScope). Has (wires_of nest s.group) wire) is has)))
   ends_there (suc depth) scope is wire has =
       let made = inside_made nest is.0 scope is.2 in
       let group = group_at nest is.2.instance.unit made.one made.there in
       let instances = group_has nest (λ g. g.instances) made.one group.0 group.1 in
       let wires = group_has nest (λ g. g.wires) made.one group.0 group.1 in
       let kept = (lines_keep made.one group.0 group.1).wires in
-      let here = subst (λ xs. Has xs wire) wires (subst (λ (s : Scope). Has (wires_of nest s.group) wire) (sym made.is) has) in
-      subst (λ (s : Scope). EndsThere s.group wire) made.is
+      let here = subst (λ xs. Has xs wire) wires (subst (λ (s : GroupScope). Has (wires_of nest s.group) wire) (sym made.is) has) in
+      subst (λ (s : GroupScope). EndsThere s.group wire) made.is
       (ends_by (Some made.one) wire
       (ap (λ xs. wire_misses nest xs wire) instances ∙ fails_any (wire_misses nest group.0.instances) group.0.wires wire kept here))
 

@@ -25,8 +25,8 @@ use Rattle.nest_runs.proofs.TraceLaws.{same_traces}
 
 pub lines_long : (text : List ℕ) (nest : Nest) → IsNestOf text nest → length nest.lines ≡ length nest.groups
 lines_long text nest says =
-    ap length says.lines ∙ length-map (groups_of says.cut.front) (λ (lines : GroupLines). lines.head)
-    ∙ sym (AllZip-long IsGroupOf (groups_of says.cut.front) nest.groups says.groups)
+    ap length says.lines ∙ length-map (groups_of says.cut.prefix) (λ (lines : GroupLines). lines.head)
+    ∙ sym (AllZip-long IsGroupOf (groups_of says.cut.prefix) nest.groups says.groups)
 
 module _ (text : List ℕ) (nest : Nest) (system : System) (lines : List ℕ) (says : IsNestOf text nest)
     (unbroken : (line rule : ℕ) → BreaksNest nest line rule → ⊥) (accepted : IsAcceptedAs (canonical_text (flat_of nest)) system lines) where

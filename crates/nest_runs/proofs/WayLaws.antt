@@ -2,65 +2,28 @@
 use Rattle.std.proofs.Common.{◌≡◌, ℕ, zero, suc, ◌+◌, ◌≤◌, Bool, true, false, List, [], ◌∷◌, ◌++◌, map, Option, Some, None, inl, inr, refl, sym, ap}
 use Rattle.std.proofs.Common.{subst}
 use Rattle.std.proofs.Common.{◌∙◌, ◌⊎◌, arith, cond}
-use Rattle.std.specs.Prelude.{is_none, ◌&&◌, ◌==◌, slice_get}
+use Rattle.std.specs.Prelude.{is_none, ◌==◌, slice_get}
 use Rattle.std.specs.List.{filter, flat_map, list_all, list_any}
 use Rattle.std.specs.Option.{option_and_then, option_map, unwrap_or}
 use Rattle.std.specs.Str.{bytes_eq}
-use Rattle.std.proofs.lemmas.Bool.{and_parts}
-use Rattle.std.proofs.lemmas.Bool.Decides.{nat_tests}
-use Rattle.unit_tree.specs.Names.{is_among, same_port}
+use Rattle.unit_tree.specs.Names.{is_among}
 use Rattle.unit_tree.specs.declared.system.Instance.{Instance}
 use Rattle.nest_text.specs.declared.nest.Bind.{Bind}
 use Rattle.nest_text.specs.declared.nest.Group.{Group}
 use Rattle.nest_text.specs.declared.nest.Nest.{Nest}
 use Rattle.nest_names.specs.Flattening.{of_group, inside, place_at, scope_at, levels, spot_in, ins_in, out_in, step_down, follow, expand, is_component}
-use Rattle.nest_names.specs.Flattening.{same_group, same_spot, distinct, reach, group_place, instance_among, instances_of}
-use Rattle.nest_names.specs.declared.scope.Scope.{Scope}
+use Rattle.nest_names.specs.Flattening.{same_spot, distinct, reach, group_place, instance_among, instances_of}
+use Rattle.nest_names.specs.declared.scope.GroupScope.{GroupScope}
 use Rattle.nest_names.specs.declared.scope.Spot.{Spot}
 use Rattle.nest_names.proofs.FlatLaws.{expand_group, step_some}
-use Rattle.language_laws.proofs.NameLaws.{same_bytes, bytes_of, same_port_of}
+use Rattle.nest_names.proofs.SameSpots.{spot_is, spot_self}
+use Rattle.language_laws.proofs.NameLaws.{same_bytes, bytes_of}
 use Rattle.language_laws.proofs.PlainNames.{has_flat, map_has, flat_has}
-use Rattle.run_laws.proofs.PlaceOrders.{same_port_is}
 use Rattle.list_laws.proofs.Members.{Has, has_either, has_map}
 use Rattle.nest_runs.specs.SoundNests.{IsSound}
 use Rattle.nest_runs.specs.NestPorts.{IsInside, IsScopeAt}
 use Rattle.nest_runs.proofs.ListLaws.{Passing, any_passes, all_pass, filtered_has, has_filtered, finds, found_has}
 use Rattle.nest_runs.proofs.ScopeLaws.{made_of, led_by, scope_inside, group_at, scope_short, OutThere, InThere, inner_out_there, inner_in_there}
-
--- ---- Ports that are the same
-
-same_number : (one other : ℕ) → (one == other) ≡ true → one ≡ other
-same_number one other is = grind (arith, nat_tests)
-
-same_groups : (one other : Option ℕ) → same_group one other ≡ true → one ≡ other
-same_groups None None is = refl
-same_groups None (Some other) is = absurd (cc)
-same_groups (Some one) None is = absurd (cc)
-same_groups (Some one) (Some other) is = ap Some (same_number one other is)
-
-groups_same : (one : Option ℕ) → same_group one one ≡ true
-groups_same None = refl
-groups_same (Some one) = number_same one
-  where
-    number_same : (one : ℕ) → (one == one) ≡ true
-    number_same one = grind (arith, nat_tests)
-
-pub same_spots : (one other : Spot) → same_spot one other ≡ true → one ≡ other
-same_spots one other is =
-    let prefix = and_parts (bytes_eq one.scope.prefix other.scope.prefix)
-    (same_group one.scope.group other.scope.group && same_port one.port other.port) is in
-    let rest = and_parts (same_group one.scope.group other.scope.group) (same_port one.port other.port) prefix.1 in
-    ap (λ p. record { scope = record { prefix = p; group = one.scope.group }; port = one.port })
-    (same_bytes one.scope.prefix other.scope.prefix prefix.0)
-    ∙ ap (λ g. record { scope = record { prefix = other.scope.prefix; group = g }; port = one.port })
-    (same_groups one.scope.group other.scope.group rest.0)
-    ∙ ap (λ p. record { scope = other.scope; port = p }) (same_port_is one.port other.port rest.1)
-
-pub spots_same : (one : Spot) → same_spot one one ≡ true
-spots_same one =
-    ap (λ told. told && (same_group one.scope.group one.scope.group && same_port one.port one.port)) (bytes_of one.scope.prefix one.scope.prefix refl)
-    ∙ ap (λ told. told && same_port one.port one.port) (groups_same one.scope.group)
-    ∙ same_port_of one.port one.port refl
 
 -- ---- Ports that are kept once
 
@@ -83,7 +46,7 @@ has_distinct kept (first ∷ spots) spot has =
     Found told = Has kept spot ⊎ Has (cond told (distinct kept spots) (first ∷ distinct (kept ++ (first ∷ [])) spots)) spot
 
     kept_before : Passing (same_spot first) kept → first ≡ spot → Has kept spot
-    kept_before found same = subst (Has kept) (sym (same_spots first found.one found.passes) ∙ same) found.has
+    kept_before found same = subst (Has kept) (sym (spot_is first found.one found.passes) ∙ same) found.has
 
     later : Has (kept ++ (first ∷ [])) spot ⊎ Has (distinct (kept ++ (first ∷ [])) spots) spot → Found false
     later (inl there) = either (has_either kept (first ∷ []) spot there)
@@ -121,12 +84,12 @@ module _ (nest : Nest) where
 
   pub expand_component : (spot : Spot) → is_component nest spot ≡ true → expand nest spot ≡ spot ∷ []
   expand_component spot is =
-      ap (λ found. unwrap_or (option_map (λ (scope : Scope). map (spot_in scope) (ins_in nest scope spot.port.port))
+      ap (λ found. unwrap_or (option_map (λ (scope : GroupScope). map (spot_in scope) (ins_in nest scope spot.port.port))
       (option_map (inside spot.scope spot.port.instance) found)) (spot ∷ [])) (nowhere (place_at nest spot.scope.group spot.port.instance) is)
 
   pub down_component : (spot : Spot) → is_component nest spot ≡ true → step_down nest spot ≡ None
   down_component spot is =
-      ap (λ found. option_and_then (λ (scope : Scope). option_map (spot_in scope) (out_in nest scope spot.port.port))
+      ap (λ found. option_and_then (λ (scope : GroupScope). option_map (spot_in scope) (out_in nest scope spot.port.port))
       (option_map (inside spot.scope spot.port.instance) found)) (nowhere (place_at nest spot.scope.group spot.port.instance) is)
 
   -- A line of the group of an instance goes from its port to one inside.
@@ -153,7 +116,7 @@ module _ (nest : Nest) where
 
   pub step_out : (spot next : Spot) → step_down nest spot ≡ Some next → Step (λ group. group.outs) spot next
   step_out spot next is =
-      let led = led_by (λ (scope : Scope). option_map (spot_in scope) (out_in nest scope spot.port.port))
+      let led = led_by (λ (scope : GroupScope). option_map (spot_in scope) (out_in nest scope spot.port.port))
       (scope_at nest spot.scope spot.port.instance) next is in
       let place = made_of (inside spot.scope spot.port.instance) (place_at nest spot.scope.group spot.port.instance) led.one led.there in
       let bind = made_of (spot_in led.one) (out_in nest led.one spot.port.port) next led.is in
@@ -162,7 +125,7 @@ module _ (nest : Nest) where
         at = place.there;
         bind = bind.one;
         has = found_has (λ (b : Bind). bytes_eq b.port spot.port.port) (of_group nest (λ g. g.outs) place.one) bind.one
-            (ap (λ (s : Scope). out_in nest s spot.port.port) place.is ∙ bind.there);
+            (ap (λ (s : GroupScope). out_in nest s spot.port.port) place.is ∙ bind.there);
         is = ap (λ s. spot_in s bind.one) place.is ∙ bind.is;
       }
 

@@ -14,7 +14,7 @@ use Rattle.unit_tree.specs.declared.system.Wire.{Wire}
 use Rattle.nest_text.specs.declared.nest.Nest.{Nest}
 use Rattle.nest_names.specs.Flattening.{instances_of, wires_of, top, scope_of, levels, flat_port, follow, is_component, reach, flat_wire, flat_wires}
 use Rattle.nest_names.specs.Flattening.{flat_of}
-use Rattle.nest_names.specs.declared.scope.Scope.{Scope}
+use Rattle.nest_names.specs.declared.scope.GroupScope.{GroupScope}
 use Rattle.nest_names.specs.declared.scope.Spot.{Spot}
 use Rattle.language_laws.proofs.NameLaws.{is_wired}
 use Rattle.language_laws.proofs.PlainNames.{has_flat, map_has, flat_has}
@@ -32,11 +32,11 @@ pub record Connection : Type 0 where
   pub from : Spot
   pub to : Spot
 
-abbrev pub ends : Scope → Wire → Connection
+abbrev pub ends : GroupScope → Wire → Connection
 ends scope wire = record { from = spot_of scope wire.from; to = spot_of scope wire.to }
 
 -- The connections in a scope, and then those inside each of its instances.
-abbrev pub connections : Nest → ℕ → Scope → List Connection
+abbrev pub connections : Nest → ℕ → GroupScope → List Connection
 connections nest zero scope = map (ends scope) (wires_of nest scope.group)
 connections nest (suc depth) scope =
     map (ends scope) (wires_of nest scope.group)
@@ -53,17 +53,17 @@ module _ (nest : Nest) where
   abbrev pub made_flat : Connection → List Wire
   made_flat one = map (wire_to one) (reach nest levels (one.to ∷ []))
 
-  own_flat : (scope : Scope) (wires : List Wire) → flat_map (flat_wire nest scope) wires ≡ flat_map made_flat (map (ends scope) wires)
+  own_flat : (scope : GroupScope) (wires : List Wire) → flat_map (flat_wire nest scope) wires ≡ flat_map made_flat (map (ends scope) wires)
   own_flat scope wires = sym (flat_map-map made_flat (ends scope) wires)
 
-  abbrev inner_connections : ℕ → Scope → Instance → List Connection
+  abbrev inner_connections : ℕ → GroupScope → Instance → List Connection
   inner_connections depth scope instance = unwrap_or (option_map (connections nest depth) (scope_of nest scope instance)) []
 
-  abbrev inner_wires : ℕ → Scope → Instance → List Wire
+  abbrev inner_wires : ℕ → GroupScope → Instance → List Wire
   inner_wires depth scope instance = unwrap_or (option_map (flat_wires nest depth) (scope_of nest scope instance)) []
 
   -- The flat system's connections are those that the connections of all scopes become.
-  pub wires_are : (depth : ℕ) (scope : Scope) → flat_wires nest depth scope ≡ flat_map made_flat (connections nest depth scope)
+  pub wires_are : (depth : ℕ) (scope : GroupScope) → flat_wires nest depth scope ≡ flat_map made_flat (connections nest depth scope)
   wires_are zero scope = own_flat scope (wires_of nest scope.group)
   wires_are (suc depth) scope =
       ap₂ (λ here inside. here ++ inside) (own_flat scope (wires_of nest scope.group)) (each (wires_are depth) (instances_of nest scope.group))
@@ -71,9 +71,9 @@ module _ (nest : Nest) where
       (flat_map (inner_connections depth scope) (instances_of nest scope.group)))
     where
       Inner : Type 0
-      Inner = (inner : Scope) → flat_wires nest depth inner ≡ flat_map made_flat (connections nest depth inner)
+      Inner = (inner : GroupScope) → flat_wires nest depth inner ≡ flat_map made_flat (connections nest depth inner)
 
-      by : Inner → (inside : Option Scope) → unwrap_or (option_map (flat_wires nest depth) inside) []
+      by : Inner → (inside : Option GroupScope) → unwrap_or (option_map (flat_wires nest depth) inside) []
           ≡ flat_map made_flat (unwrap_or (option_map (connections nest depth) inside) [])
       by same None = refl
       by same (Some inner) = same inner
@@ -89,19 +89,19 @@ module _ (nest : Nest) where
 
   pub record Standing (one : Connection) : Type 0 where
     pub depth : ℕ
-    pub scope : Scope
+    pub scope : GroupScope
     pub is_scope : IsScopeAt nest depth scope
     pub wire : Wire
     pub has : Has (wires_of nest scope.group) wire
     pub is : ends scope wire ≡ one
 
-  own_stands : (depth : ℕ) (scope : Scope) (one : Connection) → IsScopeAt nest depth scope → Has (map (ends scope) (wires_of nest scope.group)) one
+  own_stands : (depth : ℕ) (scope : GroupScope) (one : Connection) → IsScopeAt nest depth scope → Has (map (ends scope) (wires_of nest scope.group)) one
       → Standing one
   own_stands depth scope one is has =
       let found = map_has (ends scope) (wires_of nest scope.group) one has in
       record { depth = depth; scope = scope; is_scope = is; wire = found.one; has = found.has; is = found.is }
 
-  pub stands : (rest depth : ℕ) (scope : Scope) (one : Connection) → IsScopeAt nest depth scope → Has (connections nest rest scope) one → Standing one
+  pub stands : (rest depth : ℕ) (scope : GroupScope) (one : Connection) → IsScopeAt nest depth scope → Has (connections nest rest scope) one → Standing one
   stands zero depth scope one is has = own_stands depth scope one is has
   stands (suc rest) depth scope one is has =
       elim (has_either (map (ends scope) (wires_of nest scope.group))
@@ -113,8 +113,8 @@ module _ (nest : Nest) where
             (scope_of nest scope found.one) refl found.inside
       ]
     where
-      by : ((next : Scope) → IsScopeAt nest (suc depth) next → Has (connections nest rest next) one → Standing one) → (instance : Instance)
-          → Has (instances_of nest scope.group) instance → (inner : Option Scope) → scope_of nest scope instance ≡ inner
+      by : ((next : GroupScope) → IsScopeAt nest (suc depth) next → Has (connections nest rest next) one → Standing one) → (instance : Instance)
+          → Has (instances_of nest scope.group) instance → (inner : Option GroupScope) → scope_of nest scope instance ≡ inner
           → Has (unwrap_or (option_map (connections nest rest) inner) []) one → Standing one
       by later instance there None leads inner_has = absurd inner_has
       by later instance there (Some inner) leads inner_has =
@@ -126,14 +126,14 @@ module _ (nest : Nest) where
           ) inner_has
 
   -- Those of a scope are among all.
-  pub own_has : (rest : ℕ) (scope : Scope) (wire : Wire) → Has (wires_of nest scope.group) wire → Has (connections nest rest scope) (ends scope wire)
+  pub own_has : (rest : ℕ) (scope : GroupScope) (wire : Wire) → Has (wires_of nest scope.group) wire → Has (connections nest rest scope) (ends scope wire)
   own_has zero scope wire has = has_map (ends scope) (wires_of nest scope.group) wire has
   own_has (suc rest) scope wire has =
       has_front (map (ends scope) (wires_of nest scope.group)) (flat_map (inner_connections rest scope) (instances_of nest scope.group))
       (ends scope wire)
       (has_map (ends scope) (wires_of nest scope.group) wire has)
 
-  pub all_have : (all : ℕ) (one : Connection) (depth : ℕ) (scope : Scope) (rest : ℕ) → IsScopeAt nest depth scope → depth + rest ≡ all
+  pub all_have : (all : ℕ) (one : Connection) (depth : ℕ) (scope : GroupScope) (rest : ℕ) → IsScopeAt nest depth scope → depth + rest ≡ all
       → Has (connections nest rest scope) one → Has (connections nest all top) one
   all_have all one zero scope rest is sum has =
       let same : rest ≡ all = omega (arith, sum) in
@@ -216,7 +216,7 @@ module _ (nest : Nest) (sound : IsSound nest) where
   pub standing : (one : Connection) → Has all one → Standing nest one
   standing one has = stands nest levels 0 top one refl has
 
-  pub among_all : (depth : ℕ) (scope : Scope) (wire : Wire) → IsScopeAt nest depth scope → Has (wires_of nest scope.group) wire
+  pub among_all : (depth : ℕ) (scope : GroupScope) (wire : Wire) → IsScopeAt nest depth scope → Has (wires_of nest scope.group) wire
       → Has all (ends scope wire)
   among_all depth scope wire is has =
       let short = scope_short nest sound depth scope is in

@@ -2,15 +2,15 @@
 use Rattle.std.proofs.Common.{◌≡◌, Some, refl, ◌∙◌, arith}
 use Rattle.std.specs.Prelude.{codes, List, ℕ}
 use Rattle.nest_names.specs.Flattening.{inside, top}
-use Rattle.nest_names.specs.declared.scope.Scope.{Scope}
+use Rattle.nest_names.specs.declared.scope.GroupScope.{GroupScope}
 use Rattle.nest_runs.specs.NestPorts.{NestPort, OfComponent, OfGroup, IsScope, IsScopeAt, Connects, LeadsIn, LeadsOut, spot_of}
 use Rattle.nest_runs.specs.NestTrace.{AreCarried, PortValues}
 use Rattle.nest_runs.specs.WorkedNest.{ValuesAreWorked, worked_nest, instance_of, port}
 
-abbrev in_row : Scope
+abbrev in_row : GroupScope
 in_row = inside top (codes "r") 1
 
-abbrev in_shell : Scope
+abbrev in_shell : GroupScope
 in_shell = inside in_row (codes "s") 0
 
 top_is : IsScope worked_nest top

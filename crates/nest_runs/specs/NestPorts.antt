@@ -5,23 +5,23 @@ use Rattle.unit_tree.specs.declared.system.PortName.{PortName}
 use Rattle.unit_tree.specs.declared.system.Wire.{Wire}
 use Rattle.nest_text.specs.declared.nest.Nest.{Nest}
 use Rattle.nest_names.specs.Flattening.{top, scope_of, instances_of, wires_of, is_component, flat_port, expand, step_down}
-use Rattle.nest_names.specs.declared.scope.Scope.{Scope}
+use Rattle.nest_names.specs.declared.scope.GroupScope.{GroupScope}
 use Rattle.nest_names.specs.declared.scope.Spot.{Spot}
 
 -- ---- Scopes
 
 -- One scope is inside another: it is that of an instance there, whose unit is a group.
-pub record IsInside (nest : Nest) (outer scope : Scope) : Type 0 where
+pub record IsInside (nest : Nest) (outer scope : GroupScope) : Type 0 where
   pub instance : Instance
   pub stands : Contains (instances_of nest outer.group) instance
   pub leads : scope_of nest outer instance ≡ Some scope
 
 -- A scope at this depth: that of `main`, or one inside a scope that is one level less deep.
-abbrev pub IsScopeAt : Nest → ℕ → Scope → Type 0
+abbrev pub IsScopeAt : Nest → ℕ → GroupScope → Type 0
 IsScopeAt nest zero scope = scope ≡ top
-IsScopeAt nest (suc depth) scope = (outer : Scope) × IsScopeAt nest depth outer × IsInside nest outer scope
+IsScopeAt nest (suc depth) scope = (outer : GroupScope) × IsScopeAt nest depth outer × IsInside nest outer scope
 
-abbrev pub IsScope : Nest → Scope → Type 0
+abbrev pub IsScope : Nest → GroupScope → Type 0
 IsScope nest scope = (depth : ℕ) × IsScopeAt nest depth scope
 
 -- ---- Ports
@@ -32,7 +32,7 @@ pub data NestPort : Type 0 where
   OfComponent : PortName → NestPort
   OfGroup : Spot → NestPort
 
-abbrev pub spot_of : Scope → PortName → Spot
+abbrev pub spot_of : GroupScope → PortName → Spot
 spot_of scope port = record { scope = scope; port = port }
 
 -- The port that a name in a scope means. Of several instances with one name the first is meant. A port of an instance
@@ -44,7 +44,7 @@ port_at nest spot = if is_component nest spot then OfComponent (flat_port spot) 
 
 -- A connection of some scope goes from an output to an input.
 pub record Connects (nest : Nest) (from to : NestPort) : Type 0 where
-  pub scope : Scope
+  pub scope : GroupScope
   pub wire : Wire
   pub is_scope : IsScope nest scope
   pub stands : Contains (wires_of nest scope.group) wire

@@ -24,7 +24,7 @@ use Rattle.text_laws.proofs.WholeLines.{line_more}
 
 -- a line that begins no group is the first of those before the first group
 pub not_begun : (line : SourceLine) (kind : LineKind) (behind : Parted) → ((name : List ℕ) → kind ≡ kinds.Begins name → ⊥)
-    → with_line line kind behind ≡ record { front = line ∷ behind.front; groups = behind.groups }
+    → with_line line kind behind ≡ record { prefix = line ∷ behind.prefix; groups = behind.groups }
 not_begun line (kinds.Begins name) behind not = absurd (not name refl)
 not_begun line kinds.Main behind not = refl
 not_begun line (kinds.In bind) behind not = refl
@@ -87,7 +87,7 @@ pub record GatheredSoFar (text : List ℕ) (before : ℕ) (old : Body) (rest : L
   pub left : List SourceLine
   pub are_left : AreLines (number + 1) rest left
   pub done : List SourceLine
-  pub front : (parted lines).front ≡ done ++ (parted left).front
+  pub prefix : (parted lines).prefix ≡ done ++ (parted left).prefix
   pub groups : groups_of left ≡ groups_of lines
   pub added : AddsLines old new done
   pub within : number + length rest ≤ before + length text
@@ -102,7 +102,7 @@ gather_begin text before body =
       left = all.0;
       are_left = all.1;
       done = [];
-      front = refl;
+      prefix = refl;
       groups = refl;
       added = record {
         ins = sym (append-nil body.ins);
@@ -130,7 +130,7 @@ gather_next text before old rest line behind number kind middle new so_far cut s
       left = next.others;
       are_left = next.are_others;
       done = so_far.done ++ (one ∷ []);
-      front = so_far.front ∙ ap (λ (all : Parted). so_far.done ++ all.front) parts ∙ sym (append_assoc so_far.done (one ∷ []) (parted next.others).front);
+      prefix = so_far.prefix ∙ ap (λ (all : Parted). so_far.done ++ all.prefix) parts ∙ sym (append_assoc so_far.done (one ∷ []) (parted next.others).prefix);
       groups = sym (ap (λ (all : Parted). all.groups) parts) ∙ so_far.groups;
       added = adds_more old middle new so_far.done one so_far.added adds;
       within = omega (arith, within, shorter);
@@ -138,13 +138,13 @@ gather_next text before old rest line behind number kind middle new so_far cut s
     }
 
 gathered : (text : List ℕ) (before : ℕ) (old : Body) (rest : List ℕ) (number : ℕ) (new : Body) (so_far : GatheredSoFar text before old rest number new)
-    → (parted so_far.left).front ≡ [] → OfLines (before + 1) text (λ lines. Gathers lines old new rest number)
+    → (parted so_far.left).prefix ≡ [] → OfLines (before + 1) text (λ lines. Gathers lines old new rest number)
 gathered text before old rest number new so_far none =
     of_lines (before + 1) text (λ lines. Gathers lines old new rest number) so_far.lines so_far.are_lines
     (record {
       left = so_far.left;
       are_left = so_far.are_left;
-      added = subst (AddsLines old new) (sym (so_far.front ∙ ap (λ all. so_far.done ++ all) none ∙ append-nil so_far.done)) so_far.added;
+      added = subst (AddsLines old new) (sym (so_far.prefix ∙ ap (λ all. so_far.done ++ all) none ∙ append-nil so_far.done)) so_far.added;
       groups = so_far.groups;
     })
 
@@ -153,7 +153,7 @@ pub gather_end : (text : List ℕ) (before : ℕ) (old : Body) (rest : List ℕ)
     → length rest ≡ 0 → OfLines (before + 1) text (λ lines. Gathers lines old new rest number)
 gather_end text before old rest number new so_far none =
     gathered text before old rest number new so_far
-    (ap (λ lines. (parted lines).front) (none_left (number + 1) rest so_far.left none so_far.are_left))
+    (ap (λ lines. (parted lines).prefix) (none_left (number + 1) rest so_far.left none so_far.are_left))
 
 -- at the line that begins the next group
 pub gather_stop : (text : List ℕ) (before : ℕ) (old : Body) (rest line behind : List ℕ) (number : ℕ) (name : List ℕ) (new : Body)
@@ -161,7 +161,7 @@ pub gather_stop : (text : List ℕ) (before : ℕ) (old : Body) (rest line behin
     → OfLines (before + 1) text (λ lines. Gathers lines old new rest number)
 gather_stop text before old rest line behind number name new so_far cut is =
     let next = next_line (number + 1) rest line behind (kinds.Begins name) so_far.left cut is so_far.are_left in
-    gathered text before old rest number new so_far (ap (λ lines. (parted lines).front) next.cut)
+    gathered text before old rest number new so_far (ap (λ lines. (parted lines).prefix) next.cut)
 
 -- ---- A group that is collected
 
@@ -194,8 +194,8 @@ body_long (line ∷ lines) whole = kept_long line line.kind (flat_map kept_text 
 pub given_long : (lines : GroupLines) → AllByRecursion (λ line. IsWhole line.bytes) lines.body → length (lines_of (given lines)) ≡ length (numbers lines)
 given_long lines whole = ap length (line_more (codes "cosim 1") (flat_map kept_text lines.body) refl) ∙ ap suc (body_long lines.body whole)
 
-front_by : (P : SourceLine → Type 0) (line : SourceLine) (kind : LineKind) (behind : Parted) → P line → AllByRecursion P behind.front
-    → AllByRecursion P (with_line line kind behind).front
+front_by : (P : SourceLine → Type 0) (line : SourceLine) (kind : LineKind) (behind : Parted) → P line → AllByRecursion P behind.prefix
+    → AllByRecursion P (with_line line kind behind).prefix
 front_by P line (kinds.Begins name) behind one all = tt
 front_by P line kinds.Main behind one all = (one, all)
 front_by P line (kinds.In bind) behind one all = (one, all)
@@ -206,22 +206,22 @@ front_by P line kinds.Connects behind one all = (one, all)
 front_by P line kinds.Blank behind one all = (one, all)
 front_by P line kinds.Other behind one all = (one, all)
 
-front_keeps : (P : SourceLine → Type 0) (lines : List SourceLine) → AllByRecursion P lines → AllByRecursion P (parted lines).front
+front_keeps : (P : SourceLine → Type 0) (lines : List SourceLine) → AllByRecursion P lines → AllByRecursion P (parted lines).prefix
 front_keeps P [] all = tt
 front_keeps P (line ∷ lines) all = front_by P line line.kind (parted lines) all.0 (front_keeps P lines all.1)
 
-groups_by : (P : SourceLine → Type 0) (line : SourceLine) (kind : LineKind) (behind : Parted) → AllByRecursion P behind.front
+groups_by : (P : SourceLine → Type 0) (line : SourceLine) (kind : LineKind) (behind : Parted) → AllByRecursion P behind.prefix
     → AllByRecursion (λ group. AllByRecursion P group.body) behind.groups
     → AllByRecursion (λ group. AllByRecursion P group.body) (with_line line kind behind).groups
-groups_by P line (kinds.Begins name) behind front all = (front, all)
-groups_by P line kinds.Main behind front all = all
-groups_by P line (kinds.In bind) behind front all = all
-groups_by P line (kinds.Out bind) behind front all = all
-groups_by P line kinds.Opens behind front all = all
-groups_by P line kinds.Ends behind front all = all
-groups_by P line kinds.Connects behind front all = all
-groups_by P line kinds.Blank behind front all = all
-groups_by P line kinds.Other behind front all = all
+groups_by P line (kinds.Begins name) behind prefix all = (prefix, all)
+groups_by P line kinds.Main behind prefix all = all
+groups_by P line (kinds.In bind) behind prefix all = all
+groups_by P line (kinds.Out bind) behind prefix all = all
+groups_by P line kinds.Opens behind prefix all = all
+groups_by P line kinds.Ends behind prefix all = all
+groups_by P line kinds.Connects behind prefix all = all
+groups_by P line kinds.Blank behind prefix all = all
+groups_by P line kinds.Other behind prefix all = all
 
 -- a property of all lines is one of those of the groups
 pub groups_keep : (P : SourceLine → Type 0) (lines : List SourceLine) → AllByRecursion P lines
@@ -286,10 +286,10 @@ pub record IsReady (body : Body) (group : GroupLines) : Type 0 where
 
 pub ready : (text : List ℕ) (head : ℕ) (name : List ℕ) (lines : List SourceLine) (old new : Body) (rest : List ℕ) (number : ℕ) → AreLines (head + 1) text lines
     → IsGathered old (record { name = []; head = head; body = [] }) → Gathers lines old new rest number
-    → IsReady new (record { name = name; head = head; body = (parted lines).front })
+    → IsReady new (record { name = name; head = head; body = (parted lines).prefix })
 ready text head name lines old new rest number are begun gathers =
-    let group : GroupLines = record { name = name; head = head; body = (parted lines).front } in
-    let done = is_gathered old new name head (parted lines).front begun gathers.added in
+    let group : GroupLines = record { name = name; head = head; body = (parted lines).prefix } in
+    let done = is_gathered old new name head (parted lines).prefix begun gathers.added in
     let whole = front_keeps (λ line. IsWhole line.bytes) lines (are_whole (head + 1) text lines are) in
     record {
       is_gathered = done;
@@ -310,7 +310,7 @@ pub record GroupAhead (text : List ℕ) (number : ℕ) (name : List ℕ) (behind
   pub others : List SourceLine
   pub are_others : AreLines (number + 1) behind others
   pub done : List GroupLines
-  pub cut : groups_of lines ≡ done ++ (record { name = name; head = number; body = (parted others).front } ∷ groups_of others)
+  pub cut : groups_of lines ≡ done ++ (record { name = name; head = number; body = (parted others).prefix } ∷ groups_of others)
   pub are_groups : AllZip IsGroupOf done made
   pub heads_are : heads ≡ map (λ group. group.head) done
   pub within : number + length behind ≤ length text
@@ -339,7 +339,7 @@ pub group_read : (text behind rest : List ℕ) (head number : ℕ) (name : List 
     → ReadSoFar text rest number made' heads'
 group_read text behind rest head number name made made' heads heads' group ahead read made_is heads_is fits =
     let next = read ahead.others ahead.are_others in
-    let lines : GroupLines = record { name = name; head = head; body = (parted ahead.others).front } in
+    let lines : GroupLines = record { name = name; head = head; body = (parted ahead.others).prefix } in
     let within = ahead.within in
     record {
       lines = ahead.lines;
@@ -363,13 +363,13 @@ groups_read (lines ∷ groups) (group ∷ made) all = ((group, all.0), groups_re
 
 pub group_refused : (text behind : List ℕ) (head : ℕ) (name : List ℕ) (made : List Group) (heads : List ℕ) (line rule : ℕ)
     → GroupAhead text head name behind made heads
-    → OfLines (head + 1) behind (λ lines. RefusesGroup (record { name = name; head = head; body = (parted lines).front }) line rule)
+    → OfLines (head + 1) behind (λ lines. RefusesGroup (record { name = name; head = head; body = (parted lines).prefix }) line rule)
     → OfLines 1 text (λ lines. RefusesGroups (groups_of lines) line rule)
 group_refused text behind head name made heads line rule ahead refuses =
     of_lines 1 text (λ lines. RefusesGroups (groups_of lines) line rule) ahead.lines ahead.are_lines
     (record {
       before = ahead.done;
-      group = record { name = name; head = head; body = (parted ahead.others).front };
+      group = record { name = name; head = head; body = (parted ahead.others).prefix };
       later = groups_of ahead.others;
       cut = ahead.cut;
       read = groups_read ahead.done made ahead.are_groups;

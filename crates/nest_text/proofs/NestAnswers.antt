@@ -32,41 +32,41 @@ group_failed_inside lines body (fault.Line number rule) ready refused = record {
 group_failed_inside lines body fault.NoMemory ready refused = tt
 
 pub next_failed : (name : List ℕ) (head : ℕ) (lines : List SourceLine) (why : NestFault)
-    → GroupAnswers (record { name = name; head = head; body = (parted lines).front }) (Err why) → NextGroupIs name head lines (Err why)
+    → GroupAnswers (record { name = name; head = head; body = (parted lines).prefix }) (Err why) → NextGroupIs name head lines (Err why)
 next_failed name head lines (fault.Line number rule) refused = refused
 next_failed name head lines fault.NoMemory refused = tt
 
-pub groups_failed : (text front : List ℕ) (number : ℕ) (rest : List ℕ) (why : NestFault) → size_of text ≤ text_limit → CutsText text front number rest
-    → OfLines 1 front (λ lines. GroupsAnswer (groups_of lines) (Err why)) → AnswersNest text (Err why)
-groups_failed text front number rest (fault.Line line rule) short cuts refused =
-    inr (short, inr (record { cut = cut_of text front number rest cuts; refused = inl (refused cuts.has_main.before cuts.has_main.are_before) }))
-groups_failed text front number rest fault.NoMemory short cuts refused = tt
+pub groups_failed : (text prefix : List ℕ) (number : ℕ) (rest : List ℕ) (why : NestFault) → size_of text ≤ text_limit → CutsText text prefix number rest
+    → OfLines 1 prefix (λ lines. GroupsAnswer (groups_of lines) (Err why)) → AnswersNest text (Err why)
+groups_failed text prefix number rest (fault.Line line rule) short cuts refused =
+    inr (short, inr (record { cut = cut_of text prefix number rest cuts; refused = inl (refused cuts.has_main.before cuts.has_main.are_before) }))
+groups_failed text prefix number rest fault.NoMemory short cuts refused = tt
 
-pub main_failed : (text front : List ℕ) (number : ℕ) (rest : List ℕ) (groups : List Group) (heads : List ℕ) (why : NestFault) → size_of text ≤ text_limit
-    → CutsText text front number rest → OfLines 1 front (λ lines. GroupsAnswer (groups_of lines) (Ok (groups, heads))) → MainAnswers rest number (Err why)
+pub main_failed : (text prefix : List ℕ) (number : ℕ) (rest : List ℕ) (groups : List Group) (heads : List ℕ) (why : NestFault) → size_of text ≤ text_limit
+    → CutsText text prefix number rest → OfLines 1 prefix (λ lines. GroupsAnswer (groups_of lines) (Ok (groups, heads))) → MainAnswers rest number (Err why)
     → AnswersNest text (Err why)
-main_failed text front number rest groups heads (fault.Line line rule) short cuts read refused =
+main_failed text prefix number rest groups heads (fault.Line line rule) short cuts read refused =
     let made = read cuts.has_main.before cuts.has_main.are_before in
     inr (
       short,
       inr (record {
-        cut = cut_of text front number rest cuts;
+        cut = cut_of text prefix number rest cuts;
         refused = inr (
           groups_read (groups_of cuts.has_main.before) groups made.0,
           record { line = refused.line; refused = refused.refused; counted = refused.counted ∙ ap (λ main. main + refused.line) (sym cuts.has_main.is_number) },
         );
       }),
     )
-main_failed text front number rest groups heads fault.NoMemory short cuts read refused = tt
+main_failed text prefix number rest groups heads fault.NoMemory short cuts read refused = tt
 
-pub nest_is_read : (text front : List ℕ) (number : ℕ) (rest : List ℕ) (groups : List Group) (heads : List ℕ) (main : System) → size_of text ≤ text_limit
-    → CutsText text front number rest → OfLines 1 front (λ lines. GroupsAnswer (groups_of lines) (Ok (groups, heads))) → Reads rest main
+pub nest_is_read : (text prefix : List ℕ) (number : ℕ) (rest : List ℕ) (groups : List Group) (heads : List ℕ) (main : System) → size_of text ≤ text_limit
+    → CutsText text prefix number rest → OfLines 1 prefix (λ lines. GroupsAnswer (groups_of lines) (Ok (groups, heads))) → Reads rest main
     → IsNestOf text (record { main = main; groups = groups; lines = heads; main_line = number })
-nest_is_read text front number rest groups heads main short cuts read reads =
+nest_is_read text prefix number rest groups heads main short cuts read reads =
     let made = read cuts.has_main.before cuts.has_main.are_before in
     record {
       short = short;
-      cut = cut_of text front number rest cuts;
+      cut = cut_of text prefix number rest cuts;
       groups = made.0;
       lines = made.1;
       main = reads;

@@ -73,46 +73,46 @@ after_main places.InGroup = refl
 after_main places.InBlock = refl
 after_main places.InMain = refl
 
-main_among : (front : List SourceLine) (main : SourceLine) (later : List SourceLine) → main.kind ≡ kinds.Main → has_main (front ++ (main ∷ later)) ≡ true
-main_among front main later is =
-    any_behind (λ (line : SourceLine). is_main line.kind) front (main ∷ later) (ap (λ kind. is_main kind || has_main later) is)
+main_among : (prefix : List SourceLine) (main : SourceLine) (later : List SourceLine) → main.kind ≡ kinds.Main → has_main (prefix ++ (main ∷ later)) ≡ true
+main_among prefix main later is =
+    any_behind (λ (line : SourceLine). is_main line.kind) prefix (main ∷ later) (ap (λ kind. is_main kind || has_main later) is)
 
 -- after a line `main` that is allowed there is no other one
-main_alone : (place : PartPlace) (main : SourceLine) (later front : List SourceLine) (second : SourceLine) (rest : List SourceLine)
-    → are_placed place (main ∷ later) ≡ true → main.kind ≡ kinds.Main → second.kind ≡ kinds.Main → later ≡ front ++ (second ∷ rest) → ⊥
-main_alone place main later front second rest placed is also cut =
+main_alone : (place : PartPlace) (main : SourceLine) (later prefix : List SourceLine) (second : SourceLine) (rest : List SourceLine)
+    → are_placed place (main ∷ later) ≡ true → main.kind ≡ kinds.Main → second.kind ≡ kinds.Main → later ≡ prefix ++ (second ∷ rest) → ⊥
+main_alone place main later prefix second rest placed is also cut =
     let both = and_parts (may_stand place main.kind) (are_placed (place_after place main.kind) later) placed in
     let inside = sym (ap (λ after. are_placed after later) (ap (place_after place) is ∙ after_main place)) ∙ both.1 in
-    true_is_false (has_main later) (ap has_main cut ∙ main_among front second rest also) (no_second later inside)
+    true_is_false (has_main later) (ap has_main cut ∙ main_among prefix second rest also) (no_second later inside)
 
-record SameCut (front : List SourceLine) (main : SourceLine) (later front' : List SourceLine) (main' : SourceLine) (later' : List SourceLine) : Type 0 where
-  fronts : front ≡ front'
+record SameCut (prefix : List SourceLine) (main : SourceLine) (later front' : List SourceLine) (main' : SourceLine) (later' : List SourceLine) : Type 0 where
+  fronts : prefix ≡ front'
   mains : main ≡ main'
   laters : later ≡ later'
 
-cut_once : (place : PartPlace) (front : List SourceLine) (main : SourceLine) (later front' : List SourceLine) (main' : SourceLine) (later' : List SourceLine)
-    → are_placed place (front ++ (main ∷ later)) ≡ true → main.kind ≡ kinds.Main → main'.kind ≡ kinds.Main
-    → front ++ (main ∷ later) ≡ front' ++ (main' ∷ later') → SameCut front main later front' main' later'
+cut_once : (place : PartPlace) (prefix : List SourceLine) (main : SourceLine) (later front' : List SourceLine) (main' : SourceLine) (later' : List SourceLine)
+    → are_placed place (prefix ++ (main ∷ later)) ≡ true → main.kind ≡ kinds.Main → main'.kind ≡ kinds.Main
+    → prefix ++ (main ∷ later) ≡ front' ++ (main' ∷ later') → SameCut prefix main later front' main' later'
 cut_once place [] main later [] main' later' placed is also same =
     record { fronts = refl; mains = same_first main main' later later' same; laters = same_rest main main' later later' same }
 cut_once place [] main later (line ∷ front') main' later' placed is also same =
     absurd (main_alone place main later front' main' later' placed is also (same_rest main line later (front' ++ (main' ∷ later')) same))
-cut_once place (line ∷ front) main later [] main' later' placed is also same =
-    absurd (main_alone place main' later' front main later (subst (λ all. are_placed place all ≡ true) same placed) also is
-    (sym (same_rest line main' (front ++ (main ∷ later)) later' same)))
-cut_once place (line ∷ front) main later (line' ∷ front') main' later' placed is also same =
-    let both = and_parts (may_stand place line.kind) (are_placed (place_after place line.kind) (front ++ (main ∷ later))) placed in
-    let rest = cut_once (place_after place line.kind) front main later front' main' later' both.1 is also
-    (same_rest line line' (front ++ (main ∷ later)) (front' ++ (main' ∷ later')) same) in
+cut_once place (line ∷ prefix) main later [] main' later' placed is also same =
+    absurd (main_alone place main' later' prefix main later (subst (λ all. are_placed place all ≡ true) same placed) also is
+    (sym (same_rest line main' (prefix ++ (main ∷ later)) later' same)))
+cut_once place (line ∷ prefix) main later (line' ∷ front') main' later' placed is also same =
+    let both = and_parts (may_stand place line.kind) (are_placed (place_after place line.kind) (prefix ++ (main ∷ later))) placed in
+    let rest = cut_once (place_after place line.kind) prefix main later front' main' later' both.1 is also
+    (same_rest line line' (prefix ++ (main ∷ later)) (front' ++ (main' ∷ later')) same) in
     record {
-      fronts = ap₂ (λ one all. one ∷ all) (same_first line line' (front ++ (main ∷ later)) (front' ++ (main' ∷ later')) same) rest.fronts;
+      fronts = ap₂ (λ one all. one ∷ all) (same_first line line' (prefix ++ (main ∷ later)) (front' ++ (main' ∷ later')) same) rest.fronts;
       mains = rest.mains;
       laters = rest.laters;
     }
 
-same_cut : (text : List ℕ) (one other : IsCut text) → SameCut one.front one.main one.later other.front other.main other.later
+same_cut : (text : List ℕ) (one other : IsCut text) → SameCut one.prefix one.main one.later other.prefix other.main other.later
 same_cut text one other =
-    cut_once places.BeforeParts one.front one.main one.later other.front other.main other.later
+    cut_once places.BeforeParts one.prefix one.main one.later other.prefix other.main other.later
     (subst (λ all. are_placed places.BeforeParts all ≡ true) one.cut one.placed) one.is_main other.is_main
     (sym one.cut ∙ same_lines 1 text one.lines other.lines one.are_lines other.are_lines ∙ other.cut)
 
@@ -143,9 +143,9 @@ pub one_nest : (text : List ℕ) (one other : Nest) → IsNestOf text one → Is
 one_nest text one other first second =
     let same = same_cut text first.cut second.cut in
     let groups =
-    groups_once (groups_of first.cut.front) one.groups other.groups first.groups
-    (subst (λ front. AllZip IsGroupOf (groups_of front) other.groups) (sym same.fronts) second.groups) in
-    let lines = first.lines ∙ ap (λ front. map (λ (group : GroupLines). group.head) (groups_of front)) same.fronts ∙ sym second.lines in
+    groups_once (groups_of first.cut.prefix) one.groups other.groups first.groups
+    (subst (λ prefix. AllZip IsGroupOf (groups_of prefix) other.groups) (sym same.fronts) second.groups) in
+    let lines = first.lines ∙ ap (λ prefix. map (λ (group : GroupLines). group.head) (groups_of prefix)) same.fronts ∙ sym second.lines in
     let mains =
     (answered_once known second.cut.rest).one_system one.main other.main
     (reads_same first.cut.rest second.cut.rest one.main (same_rests text first.cut second.cut) first.main) second.main in
@@ -208,7 +208,7 @@ cut_breaks text number cut breaks = by breaks.breaks
 
     by : ((has_main breaks.lines ≡ false) × (number ≡ 1)) ⊎ ((has_main breaks.lines ≡ true) × StraysAt breaks.lines number) → ⊥
     by (inl (none, is)) =
-        true_is_false (has_main cut.lines) (ap has_main cut.cut ∙ main_among cut.front cut.main cut.later cut.is_main) (sym (ap has_main same) ∙ none)
+        true_is_false (has_main cut.lines) (ap has_main cut.cut ∙ main_among cut.prefix cut.main cut.later cut.is_main) (sym (ap has_main same) ∙ none)
     by (inr (some, strays)) =
         true_is_false (may_stand (place_behind places.BeforeParts strays.before) strays.line.kind)
         (placed_at places.BeforeParts strays.before strays.line strays.later
@@ -266,20 +266,20 @@ main_refused_once rest rest' main main' number rule other by same mains one seco
 part_once : (text : List ℕ) (number rule other by : ℕ) → RefusesPart text number rule → RefusesPart text other by → (number ≡ other) × (rule ≡ by)
 part_once text number rule other by first second = cases first.refused second.refused
   where
-    same : SameCut first.cut.front first.cut.main first.cut.later second.cut.front second.cut.main second.cut.later
+    same : SameCut first.cut.prefix first.cut.main first.cut.later second.cut.prefix second.cut.main second.cut.later
     same = same_cut text first.cut second.cut
 
-    groups : groups_of first.cut.front ≡ groups_of second.cut.front
+    groups : groups_of first.cut.prefix ≡ groups_of second.cut.prefix
     groups = ap groups_of same.fronts
 
-    cases : RefusesGroups (groups_of first.cut.front) number rule
-        ⊎ (AllByRecursion IsRead (groups_of first.cut.front) × RefusesMain first.cut.rest first.cut.main.number number rule)
-        → RefusesGroups (groups_of second.cut.front) other by
-        ⊎ (AllByRecursion IsRead (groups_of second.cut.front) × RefusesMain second.cut.rest second.cut.main.number other by)
+    cases : RefusesGroups (groups_of first.cut.prefix) number rule
+        ⊎ (AllByRecursion IsRead (groups_of first.cut.prefix) × RefusesMain first.cut.rest first.cut.main.number number rule)
+        → RefusesGroups (groups_of second.cut.prefix) other by
+        ⊎ (AllByRecursion IsRead (groups_of second.cut.prefix) × RefusesMain second.cut.rest second.cut.main.number other by)
         → (number ≡ other) × (rule ≡ by)
-    cases (inl one) (inl two) = groups_refused_once (groups_of first.cut.front) (groups_of second.cut.front) number rule other by groups one two
-    cases (inl one) (inr two) = absurd (some_unread (groups_of first.cut.front) (groups_of second.cut.front) number rule groups one two.0)
-    cases (inr one) (inl two) = absurd (some_unread (groups_of second.cut.front) (groups_of first.cut.front) other by (sym groups) two one.0)
+    cases (inl one) (inl two) = groups_refused_once (groups_of first.cut.prefix) (groups_of second.cut.prefix) number rule other by groups one two
+    cases (inl one) (inr two) = absurd (some_unread (groups_of first.cut.prefix) (groups_of second.cut.prefix) number rule groups one two.0)
+    cases (inr one) (inl two) = absurd (some_unread (groups_of second.cut.prefix) (groups_of first.cut.prefix) other by (sym groups) two one.0)
     cases (inr one) (inr two) =
         main_refused_once first.cut.rest second.cut.rest first.cut.main.number second.cut.main.number number rule other by
         (same_rests text first.cut second.cut) (ap (λ (line : SourceLine). line.number) same.mains) one.1 two.1
@@ -301,14 +301,14 @@ one_refusal text line rule other by (inr (short, inr one)) (inr (also, inr two))
 part_read : (text : List ℕ) (nest : Nest) (number rule : ℕ) → IsNestOf text nest → RefusesPart text number rule → ⊥
 part_read text nest number rule is refuses = cases refuses.refused
   where
-    same : SameCut refuses.cut.front refuses.cut.main refuses.cut.later is.cut.front is.cut.main is.cut.later
+    same : SameCut refuses.cut.prefix refuses.cut.main refuses.cut.later is.cut.prefix is.cut.main is.cut.later
     same = same_cut text refuses.cut is.cut
 
-    cases : RefusesGroups (groups_of refuses.cut.front) number rule
-        ⊎ (AllByRecursion IsRead (groups_of refuses.cut.front) × RefusesMain refuses.cut.rest refuses.cut.main.number number rule) → ⊥
+    cases : RefusesGroups (groups_of refuses.cut.prefix) number rule
+        ⊎ (AllByRecursion IsRead (groups_of refuses.cut.prefix) × RefusesMain refuses.cut.rest refuses.cut.main.number number rule) → ⊥
     cases (inl one) =
-        some_unread (groups_of refuses.cut.front) (groups_of is.cut.front) number rule (ap groups_of same.fronts) one
-        (groups_read (groups_of is.cut.front) nest.groups is.groups)
+        some_unread (groups_of refuses.cut.prefix) (groups_of is.cut.prefix) number rule (ap groups_of same.fronts) one
+        (groups_read (groups_of is.cut.prefix) nest.groups is.groups)
     cases (inr one) =
         (answered_once known is.cut.rest).not_both nest.main one.1.line rule is.main
         (refused_same refuses.cut.rest is.cut.rest one.1.line rule (same_rests text refuses.cut is.cut) one.1.refused)

@@ -28,18 +28,18 @@ use Rattle.nest_text.proofs.TextCuts.{IsWhole, are_whole, ended, lines_ended, ma
 -- ---- The cut
 
 record FoundMain (lines : List SourceLine) : Type 0 where
-  front : List SourceLine
+  prefix : List SourceLine
   main : SourceLine
   later : List SourceLine
-  cut : lines ≡ front ++ (main ∷ later)
+  cut : lines ≡ prefix ++ (main ∷ later)
   is : main.kind ≡ kinds.Main
 
 found_by : (line : SourceLine) (lines : List SourceLine) (test : Bool) → is_main line.kind ≡ test → (has_main lines ≡ true → FoundMain lines)
     → (test || has_main lines) ≡ true → FoundMain (line ∷ lines)
-found_by line lines true is later some = record { front = []; main = line; later = lines; cut = refl; is = main_kind line.kind is }
+found_by line lines true is later some = record { prefix = []; main = line; later = lines; cut = refl; is = main_kind line.kind is }
 found_by line lines false is later some =
     let found = later some in
-    record { front = line ∷ found.front; main = found.main; later = found.later; cut = ap (λ all. line ∷ all) found.cut; is = found.is }
+    record { prefix = line ∷ found.prefix; main = found.main; later = found.later; cut = ap (λ all. line ∷ all) found.cut; is = found.is }
 
 found_main : (lines : List SourceLine) → has_main lines ≡ true → FoundMain lines
 found_main [] some = absurd (cc)
@@ -48,20 +48,20 @@ found_main (line ∷ lines) some = found_by line lines (is_main line.kind) refl 
 -- The parts of a text, with complete lines.
 record CutThere (text : List ℕ) : Type 0 where
   cut : IsCut text
-  whole : AllByRecursion (λ line. IsWhole line.bytes) cut.front
+  whole : AllByRecursion (λ line. IsWhole line.bytes) cut.prefix
 
 cut_there : (text : List ℕ) (lines : List SourceLine) → AreLines 1 text lines → has_main lines ≡ true → are_placed BeforeParts lines ≡ true → CutThere text
 cut_there text lines are some placed =
     let found = found_main lines some in
     let whole = subst (AllByRecursion (λ (line : SourceLine). IsWhole line.bytes)) found.cut (are_whole 1 text lines are) in
-    let behind = back_of (λ (line : SourceLine). IsWhole line.bytes) found.front (found.main ∷ found.later) whole in
+    let behind = back_of (λ (line : SourceLine). IsWhole line.bytes) found.prefix (found.main ∷ found.later) whole in
     let bytes = map (λ (line : SourceLine). line.bytes) found.later in
     record {
       cut = record {
         lines = lines;
         are_lines = are;
         placed = placed;
-        front = found.front;
+        prefix = found.prefix;
         main = found.main;
         later = found.later;
         cut = found.cut;
@@ -69,7 +69,7 @@ cut_there text lines are some placed =
         rest = ended bytes;
         rest_is = lines_ended bytes (whole_bytes found.later behind.1);
       };
-      whole = front_of (λ (line : SourceLine). IsWhole line.bytes) found.front (found.main ∷ found.later) whole;
+      whole = front_of (λ (line : SourceLine). IsWhole line.bytes) found.prefix (found.main ∷ found.later) whole;
     }
 
 -- ---- Groups
@@ -137,10 +137,10 @@ groups_told (lines ∷ groups) whole = group_told lines groups whole.0 (groups_t
 abbrev Told : List ℕ → Type 0
 Told text = ((nest : Nest) × IsNestOf text nest) ⊎ ((line : ℕ) × (rule : ℕ) × RefusesNest text line rule)
 
-main_told : (text : List ℕ) (cut : IsCut text) (made : List Group) → size_of text ≤ text_limit → AllZip IsGroupOf (groups_of cut.front) made
+main_told : (text : List ℕ) (cut : IsCut text) (made : List Group) → size_of text ≤ text_limit → AllZip IsGroupOf (groups_of cut.prefix) made
     → ((system : System) × Reads cut.rest system) ⊎ ((line : ℕ) × (rule : ℕ) × IsRefused cut.rest line rule) → Told text
 main_told text cut made short all (inl (system, reads)) = inl (
-  record { main = system; groups = made; lines = map (λ (group : GroupLines). group.head) (groups_of cut.front); main_line = cut.main.number },
+  record { main = system; groups = made; lines = map (λ (group : GroupLines). group.head) (groups_of cut.prefix); main_line = cut.main.number },
   record { short = short; cut = cut; groups = all; lines = refl; main = reads; main_line = refl },
 )
 main_told text cut made short all (inr (line, rule, refused)) = inr (
@@ -150,12 +150,12 @@ main_told text cut made short all (inr (line, rule, refused)) = inr (
     short,
     inr (record {
       cut = cut;
-      refused = inr (groups_read (groups_of cut.front) made all, record { line = line; refused = refused; counted = refl });
+      refused = inr (groups_read (groups_of cut.prefix) made all, record { line = line; refused = refused; counted = refl });
     }),
   ),
 )
 
-parts_told : (text : List ℕ) (cut : IsCut text) → size_of text ≤ text_limit → GroupsTold (groups_of cut.front) → Told text
+parts_told : (text : List ℕ) (cut : IsCut text) → size_of text ≤ text_limit → GroupsTold (groups_of cut.prefix) → Told text
 parts_told text cut short (inl (made, all)) = main_told text cut made short all (answered_once known cut.rest).answered
 parts_told text cut short (inr (number, rule, refuses)) = inr (number, rule, inr (short, inr (record { cut = cut; refused = inl refuses })))
 
@@ -163,7 +163,7 @@ stray_told : (text : List ℕ) (lines : List SourceLine) → size_of text ≤ te
     → (stray : Option ℕ) → first_stray BeforeParts lines ≡ stray → Told text
 stray_told text lines short are some None none =
     let there = cut_there text lines are some (none_strays BeforeParts lines none) in
-    parts_told text there.cut short (groups_told (groups_of there.cut.front) (groups_keep (λ line. IsWhole line.bytes) there.cut.front there.whole))
+    parts_told text there.cut short (groups_told (groups_of there.cut.prefix) (groups_keep (λ line. IsWhole line.bytes) there.cut.prefix there.whole))
 stray_told text lines short are some (Some number) is =
     let found = strays_at BeforeParts lines number is in
     inr (

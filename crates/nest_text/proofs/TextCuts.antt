@@ -74,13 +74,13 @@ bytes_of first (one ∷ all) (line ∷ lines) are = ap₂ (λ bytes others. byte
 pub bytes_are : (first : ℕ) (text : List ℕ) (lines : List SourceLine) → AreLines first text lines → lines_of text ≡ map (λ (line : SourceLine). line.bytes) lines
 bytes_are first text lines are = sym (bytes_of first (lines_of text) lines are)
 
-front_lines : (first : ℕ) (all : List (List ℕ)) (front later : List SourceLine) → AllZip IsLine (enumerate_from first all) (front ++ later)
-    → AllZip IsLine (enumerate_from first (map (λ (line : SourceLine). line.bytes) front)) front
+front_lines : (first : ℕ) (all : List (List ℕ)) (prefix later : List SourceLine) → AllZip IsLine (enumerate_from first all) (prefix ++ later)
+    → AllZip IsLine (enumerate_from first (map (λ (line : SourceLine). line.bytes) prefix)) prefix
 front_lines first all [] later are = tt
-front_lines first [] (line ∷ front) later are = absurd are
-front_lines first (one ∷ all) (line ∷ front) later are = (
+front_lines first [] (line ∷ prefix) later are = absurd are
+front_lines first (one ∷ all) (line ∷ prefix) later are = (
   record { number = are.0.number; bytes = refl; kind = subst (λ bytes. IsKind (without_return bytes) line.kind) (sym are.0.bytes) are.0.kind },
-  front_lines (first + 1) all front later are.1,
+  front_lines (first + 1) all prefix later are.1,
 )
 
 -- The lines of a text up to the one before this rest, none of which is `main`.
@@ -114,34 +114,34 @@ main_begin text =
 abbrev IsCutOff : List ℕ → List ℕ → List ℕ → Type 0
 IsCutOff rest line behind = (rest ≡ line ++ 10 ∷ behind) ⊎ ((rest ≡ line) × (behind ≡ []))
 
-ended_more : (front : List SourceLine) (one : SourceLine) → ended (map (λ (line : SourceLine). line.bytes) (front ++ (one ∷ []))) ≡ ended (map (λ (line : SourceLine). line.bytes) front) ++ (one.bytes ++ 10 ∷ [])
-ended_more front one =
-    ap ended (map-append (λ (line : SourceLine). line.bytes) front (one ∷ []))
-    ∙ flat_map-append (λ line. line ++ 10 ∷ []) (map (λ (line : SourceLine). line.bytes) front) (one.bytes ∷ [])
-    ∙ ap (λ more. ended (map (λ (line : SourceLine). line.bytes) front) ++ more) (append-nil (one.bytes ++ 10 ∷ []))
+ended_more : (prefix : List SourceLine) (one : SourceLine) → ended (map (λ (line : SourceLine). line.bytes) (prefix ++ (one ∷ []))) ≡ ended (map (λ (line : SourceLine). line.bytes) prefix) ++ (one.bytes ++ 10 ∷ [])
+ended_more prefix one =
+    ap ended (map-append (λ (line : SourceLine). line.bytes) prefix (one ∷ []))
+    ∙ flat_map-append (λ line. line ++ 10 ∷ []) (map (λ (line : SourceLine). line.bytes) prefix) (one.bytes ∷ [])
+    ∙ ap (λ more. ended (map (λ (line : SourceLine). line.bytes) prefix) ++ more) (append-nil (one.bytes ++ 10 ∷ []))
 
-text_more : (text rest behind : List ℕ) (front : List SourceLine) (one : SourceLine) → (text ≡ ended (map (λ (line : SourceLine). line.bytes) front) ++ rest) ⊎ (rest ≡ [])
+text_more : (text rest behind : List ℕ) (prefix : List SourceLine) (one : SourceLine) → (text ≡ ended (map (λ (line : SourceLine). line.bytes) prefix) ++ rest) ⊎ (rest ≡ [])
     → IsCutOff rest one.bytes behind → (rest ≡ [] → ⊥)
-    → (text ≡ ended (map (λ (line : SourceLine). line.bytes) (front ++ (one ∷ []))) ++ behind) ⊎ (behind ≡ [])
-text_more text rest behind front one (inr empty) off some = absurd (some empty)
-text_more text rest behind front one (inl is) (inr (all, none)) some = inr none
-text_more text rest behind front one (inl is) (inl cut) some =
-    let done = ended (map (λ (line : SourceLine). line.bytes) front) in
+    → (text ≡ ended (map (λ (line : SourceLine). line.bytes) (prefix ++ (one ∷ []))) ++ behind) ⊎ (behind ≡ [])
+text_more text rest behind prefix one (inr empty) off some = absurd (some empty)
+text_more text rest behind prefix one (inl is) (inr (all, none)) some = inr none
+text_more text rest behind prefix one (inl is) (inl cut) some =
+    let done = ended (map (λ (line : SourceLine). line.bytes) prefix) in
     inl (
     is ∙ ap (λ more. done ++ more) (cut ∙ sym (append_assoc one.bytes (10 ∷ []) behind)) ∙ sym (append_assoc done (one.bytes ++ 10 ∷ []) behind)
-    ∙ ap (λ all. all ++ behind) (sym (ended_more front one)))
+    ∙ ap (λ all. all ++ behind) (sym (ended_more prefix one)))
 
 not_empty : (rest behind : List ℕ) → length behind < length rest → rest ≡ [] → ⊥
 not_empty rest behind shorter is = let none = ap length is in omega (arith, none, shorter)
 
-none_by : (test : Bool) (front : List SourceLine) (one : SourceLine) → (has_main front ≡ false → has_main (front ++ (one ∷ [])) ≡ false)
-    → (test || has_main front) ≡ false → (test || has_main (front ++ (one ∷ []))) ≡ false
-none_by true front one later none = absurd (cc)
-none_by false front one later none = later none
+none_by : (test : Bool) (prefix : List SourceLine) (one : SourceLine) → (has_main prefix ≡ false → has_main (prefix ++ (one ∷ [])) ≡ false)
+    → (test || has_main prefix) ≡ false → (test || has_main (prefix ++ (one ∷ []))) ≡ false
+none_by true prefix one later none = absurd (cc)
+none_by false prefix one later none = later none
 
-none_more : (front : List SourceLine) (one : SourceLine) → has_main front ≡ false → is_main one.kind ≡ false → has_main (front ++ (one ∷ [])) ≡ false
+none_more : (prefix : List SourceLine) (one : SourceLine) → has_main prefix ≡ false → is_main one.kind ≡ false → has_main (prefix ++ (one ∷ [])) ≡ false
 none_more [] one none is = ap (λ test. test || false) is
-none_more (line ∷ front) one none is = none_by (is_main line.kind) front one (λ later. none_more front one later is) none
+none_more (line ∷ prefix) one none is = none_by (is_main line.kind) prefix one (λ later. none_more prefix one later is) none
 
 pub main_next : (text rest line behind : List ℕ) (number : ℕ) (kind : LineKind) → MainLeft text rest number → lines_of rest ≡ line ∷ lines_of behind
     → IsCutOff rest line behind → length behind < length rest → IsKind (without_return line) kind → is_main kind ≡ false
@@ -162,11 +162,11 @@ main_next text rest line behind number kind so_far cut off shorter is other =
       within = omega (arith, within, shorter);
     }
 
-front_is : (text rest : List ℕ) (front : List SourceLine) → (text ≡ ended (map (λ (line : SourceLine). line.bytes) front) ++ rest) ⊎ (rest ≡ []) → (rest ≡ [] → ⊥)
-    → take (length text - length rest) text ≡ ended (map (λ (line : SourceLine). line.bytes) front)
-front_is text rest front (inr empty) some = absurd (some empty)
-front_is text rest front (inl is) some =
-    let done = ended (map (λ (line : SourceLine). line.bytes) front) in
+front_is : (text rest : List ℕ) (prefix : List SourceLine) → (text ≡ ended (map (λ (line : SourceLine). line.bytes) prefix) ++ rest) ⊎ (rest ≡ []) → (rest ≡ [] → ⊥)
+    → take (length text - length rest) text ≡ ended (map (λ (line : SourceLine). line.bytes) prefix)
+front_is text rest prefix (inr empty) some = absurd (some empty)
+front_is text rest prefix (inl is) some =
+    let done = ended (map (λ (line : SourceLine). line.bytes) prefix) in
     let long = ap length is in
     let count : length text - length rest ≡ length done = omega (arith, long, length-append done rest) in
     ap₂ (λ n all. take n all) count is ∙ take-append_seam done rest
@@ -182,18 +182,18 @@ main_kind kinds.Connects is = absurd (cc)
 main_kind kinds.Blank is = absurd (cc)
 main_kind kinds.Other is = absurd (cc)
 
-pub main_found : (text rest line behind front : List ℕ) (number : ℕ) (kind : LineKind) → MainLeft text rest number → lines_of rest ≡ line ∷ lines_of behind
-    → length behind < length rest → IsKind (without_return line) kind → is_main kind ≡ true → front ≡ take (length text - length rest) text
-    → OfLines 1 text (λ lines. HasMainAt lines front (number + 1) behind)
-main_found text rest line behind front number kind so_far cut shorter is main front_cut =
+pub main_found : (text rest line behind prefix : List ℕ) (number : ℕ) (kind : LineKind) → MainLeft text rest number → lines_of rest ≡ line ∷ lines_of behind
+    → length behind < length rest → IsKind (without_return line) kind → is_main kind ≡ true → prefix ≡ take (length text - length rest) text
+    → OfLines 1 text (λ lines. HasMainAt lines prefix (number + 1) behind)
+main_found text rest line behind prefix number kind so_far cut shorter is main front_cut =
     let next = next_line (number + 1) rest line behind kind so_far.left cut is so_far.are_left in
     let bytes = map (λ (line : SourceLine). line.bytes) so_far.before in
     let whole =
     front_of (λ (line : SourceLine). IsWhole line.bytes) so_far.before so_far.left
     (subst (AllByRecursion (λ (line : SourceLine). IsWhole line.bytes)) so_far.cut (are_whole 1 text so_far.lines so_far.are_lines)) in
-    let lines : lines_of front ≡ bytes =
+    let lines : lines_of prefix ≡ bytes =
     ap lines_of (front_cut ∙ front_is text rest so_far.before so_far.text_is (not_empty rest behind shorter)) ∙ lines_ended bytes (whole_bytes so_far.before whole) in
-    of_lines 1 text (λ lines. HasMainAt lines front (number + 1) behind) so_far.lines so_far.are_lines
+    of_lines 1 text (λ lines. HasMainAt lines prefix (number + 1) behind) so_far.lines so_far.are_lines
     (record {
       before = so_far.before;
       main = record { number = number + 1; bytes = line; kind = kind };
@@ -214,8 +214,8 @@ main_none text rest number so_far none =
 
 -- ---- Texts that are cut, and others
 
-main_there : (lines : List SourceLine) (front : List ℕ) (number : ℕ) (rest : List ℕ) → HasMainAt lines front number rest → has_main lines ≡ true
-main_there lines front number rest has =
+main_there : (lines : List SourceLine) (prefix : List ℕ) (number : ℕ) (rest : List ℕ) → HasMainAt lines prefix number rest → has_main lines ≡ true
+main_there lines prefix number rest has =
     ap has_main has.cut
     ∙ any_behind (λ (line : SourceLine). is_main line.kind) has.before (has.main ∷ has.later)
     (ap (λ kind. is_main kind || has_main has.later) has.is_main)
@@ -225,16 +225,16 @@ no_main text none =
     let all = lines_there 1 text in
     record { lines = all.0; are_lines = all.1; breaks = inl (none all.0 all.1, refl) }
 
-pub breaks_stray : (text front : List ℕ) (number : ℕ) (rest : List ℕ) (stray : ℕ) → OfLines 1 text (λ lines. HasMainAt lines front number rest)
+pub breaks_stray : (text prefix : List ℕ) (number : ℕ) (rest : List ℕ) (stray : ℕ) → OfLines 1 text (λ lines. HasMainAt lines prefix number rest)
     → OfLines 1 text (λ lines. Some stray ≡ first_stray BeforeParts lines) → BreaksParts text stray
-breaks_stray text front number rest stray has strays =
+breaks_stray text prefix number rest stray has strays =
     let all = lines_there 1 text in
     let found = strays_at BeforeParts all.0 stray (sym (strays all.0 all.1)) in
     record {
       lines = all.0;
       are_lines = all.1;
       breaks = inr (
-        main_there all.0 front number rest (has all.0 all.1),
+        main_there all.0 prefix number rest (has all.0 all.1),
         record {
           before = found.before;
           line = found.line;
@@ -247,9 +247,9 @@ breaks_stray text front number rest stray has strays =
       );
     }
 
-pub cuts_text : (text front : List ℕ) (number : ℕ) (rest : List ℕ) → OfLines 1 text (λ lines. HasMainAt lines front number rest)
-    → OfLines 1 text (λ lines. None ≡ first_stray BeforeParts lines) → CutsText text front number rest
-cuts_text text front number rest has none =
+pub cuts_text : (text prefix : List ℕ) (number : ℕ) (rest : List ℕ) → OfLines 1 text (λ lines. HasMainAt lines prefix number rest)
+    → OfLines 1 text (λ lines. None ≡ first_stray BeforeParts lines) → CutsText text prefix number rest
+cuts_text text prefix number rest has none =
     let all = lines_there 1 text in
     record {
       lines = all.0;
@@ -259,12 +259,12 @@ cuts_text text front number rest has none =
     }
 
 -- the cut of a text, as the definition has it
-abbrev pub cut_of : (text front : List ℕ) (number : ℕ) (rest : List ℕ) → CutsText text front number rest → IsCut text
-cut_of text front number rest cuts = record {
+abbrev pub cut_of : (text prefix : List ℕ) (number : ℕ) (rest : List ℕ) → CutsText text prefix number rest → IsCut text
+cut_of text prefix number rest cuts = record {
   lines = cuts.lines;
   are_lines = cuts.are_lines;
   placed = cuts.placed;
-  front = cuts.has_main.before;
+  prefix = cuts.has_main.before;
   main = cuts.has_main.main;
   later = cuts.has_main.later;
   cut = cuts.has_main.cut;

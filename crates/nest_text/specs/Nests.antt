@@ -29,17 +29,17 @@ pub record GroupLines : Type 0 where
 
 -- Lines in parts: those before the first group, and the groups.
 pub record Parted : Type 0 where
-  pub front : List SourceLine
+  pub prefix : List SourceLine
   pub groups : List GroupLines
 
 -- With one more line, before the others.
 abbrev pub with_line : SourceLine → LineKind → Parted → Parted
 with_line line (kinds.Begins name) parted =
-    record { front = []; groups = record { name = name; head = line.number; body = parted.front } ∷ parted.groups }
-with_line line kind parted = record { front = line ∷ parted.front; groups = parted.groups }
+    record { prefix = []; groups = record { name = name; head = line.number; body = parted.prefix } ∷ parted.groups }
+with_line line kind parted = record { prefix = line ∷ parted.prefix; groups = parted.groups }
 
 abbrev pub parted : List SourceLine → Parted
-parted [] = record { front = []; groups = [] }
+parted [] = record { prefix = []; groups = [] }
 parted (line ∷ lines) = with_line line line.kind (parted lines)
 
 -- The groups of lines.
@@ -94,10 +94,10 @@ pub record IsCut (text : List ℕ) : Type 0 where
   pub lines : List SourceLine
   pub are_lines : AreLines 1 text lines
   pub placed : IsTrue (are_placed BeforeParts lines)
-  pub front : List SourceLine
+  pub prefix : List SourceLine
   pub main : SourceLine
   pub later : List SourceLine
-  pub cut : lines ≡ front ++ (main ∷ later)
+  pub cut : lines ≡ prefix ++ (main ∷ later)
   pub is_main : main.kind ≡ kinds.Main
   -- The text after `main`.
   pub rest : List ℕ
@@ -107,8 +107,8 @@ pub record IsCut (text : List ℕ) : Type 0 where
 pub record IsNestOf (text : List ℕ) (nest : Nest) : Type 0 where
   pub short : size_of text ≤ text_limit
   pub cut : IsCut text
-  pub groups : AllZip IsGroupOf (groups_of cut.front) nest.groups
-  pub lines : nest.lines ≡ map (λ group. group.head) (groups_of cut.front)
+  pub groups : AllZip IsGroupOf (groups_of cut.prefix) nest.groups
+  pub lines : nest.lines ≡ map (λ group. group.head) (groups_of cut.prefix)
   pub main : Reads cut.rest nest.main
   pub main_line : nest.main_line ≡ cut.main.number
 
@@ -169,8 +169,8 @@ pub record RefusesMain (rest : List ℕ) (main number rule : ℕ) : Type 0 where
 pub record RefusesPart (text : List ℕ) (number rule : ℕ) : Type 0 where
   pub cut : IsCut text
   pub refused :
-      RefusesGroups (groups_of cut.front) number rule
-      ⊎ (AllByRecursion IsRead (groups_of cut.front) × RefusesMain cut.rest cut.main.number number rule)
+      RefusesGroups (groups_of cut.prefix) number rule
+      ⊎ (AllByRecursion IsRead (groups_of cut.prefix) × RefusesMain cut.rest cut.main.number number rule)
 
 -- The nested text is refused at the line by the rule.
 abbrev pub RefusesNest : List ℕ → ℕ → ℕ → Type 0

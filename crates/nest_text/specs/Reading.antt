@@ -99,29 +99,29 @@ first_stray place [] = None
 first_stray place (line ∷ lines) = if may_stand place line.kind then first_stray (place_after place line.kind) lines else Some line.number
 
 -- The lines have a line `main` with this number, and these are the texts before and after it.
-pub record HasMainAt (lines : List SourceLine) (front : List ℕ) (number : ℕ) (rest : List ℕ) : Type 0 where
+pub record HasMainAt (lines : List SourceLine) (prefix : List ℕ) (number : ℕ) (rest : List ℕ) : Type 0 where
   pub before : List SourceLine
   pub main : SourceLine
   pub later : List SourceLine
   pub cut : lines ≡ before ++ (main ∷ later)
-  pub are_before : AreLines 1 front before
+  pub are_before : AreLines 1 prefix before
   pub is_main : main.kind ≡ kinds.Main
   pub is_number : main.number ≡ number
   pub are_later : AreLines (number + 1) rest later
 
 abbrev pub MainIs : List SourceLine → Option (Bor (List ℕ) × ℕ × Bor (List ℕ)) → Type 0
 MainIs lines None = IsFalse (has_main lines)
-MainIs lines (Some (front, number, rest)) = HasMainAt lines front.now number rest.now
+MainIs lines (Some (prefix, number, rest)) = HasMainAt lines prefix.now number rest.now
 
 -- A text that was cut at its line `main`: each of its lines is allowed where it is.
-pub record CutsText (text front : List ℕ) (number : ℕ) (rest : List ℕ) : Type 0 where
+pub record CutsText (text prefix : List ℕ) (number : ℕ) (rest : List ℕ) : Type 0 where
   pub lines : List SourceLine
   pub are_lines : AreLines 1 text lines
   pub placed : IsTrue (are_placed BeforeParts lines)
-  pub has_main : HasMainAt lines front number rest
+  pub has_main : HasMainAt lines prefix number rest
 
 abbrev pub CutAnswers : List ℕ → Result (Bor (List ℕ) × ℕ × Bor (List ℕ)) NestFault → Type 0
-CutAnswers text (Ok (front, number, rest)) = CutsText text front.now number rest.now
+CutAnswers text (Ok (prefix, number, rest)) = CutsText text prefix.now number rest.now
 CutAnswers text (Err (fault.Line number rule)) = (rule ≡ 26) × BreaksParts text number
 CutAnswers text (Err fault.NoMemory) = ⊤
 
@@ -145,7 +145,7 @@ pub record AddsLines (old new : Body) (lines : List SourceLine) : Type 0 where
 pub record Gathers (lines : List SourceLine) (old new : Body) (rest : List ℕ) (number : ℕ) : Type 0 where
   pub left : List SourceLine
   pub are_left : AreLines (number + 1) rest left
-  pub added : AddsLines old new (parted lines).front
+  pub added : AddsLines old new (parted lines).prefix
   pub groups : groups_of left ≡ groups_of lines
 
 -- All lines of a group are collected.
@@ -176,14 +176,14 @@ GroupAnswers lines (Err fault.NoMemory) = ⊤
 
 -- The group of this name, with these lines after its own, is read. This rest follows it.
 pub record IsNextGroup (name : List ℕ) (head : ℕ) (lines : List SourceLine) (group : Group) (rest : List ℕ) (number : ℕ) : Type 0 where
-  pub is_group : IsGroupOf (record { name = name; head = head; body = (parted lines).front }) group
+  pub is_group : IsGroupOf (record { name = name; head = head; body = (parted lines).prefix }) group
   pub left : List SourceLine
   pub are_left : AreLines (number + 1) rest left
   pub groups : groups_of left ≡ groups_of lines
 
 abbrev pub NextGroupIs : List ℕ → ℕ → List SourceLine → Result (Group × Bor (List ℕ) × ℕ) NestFault → Type 0
 NextGroupIs name head lines (Ok (group, rest, number)) = IsNextGroup name head lines group rest.now number
-NextGroupIs name head lines (Err (fault.Line number rule)) = RefusesGroup (record { name = name; head = head; body = (parted lines).front }) number rule
+NextGroupIs name head lines (Err (fault.Line number rule)) = RefusesGroup (record { name = name; head = head; body = (parted lines).prefix }) number rule
 NextGroupIs name head lines (Err fault.NoMemory) = ⊤
 
 abbrev pub GroupsAnswer : List GroupLines → Result (List Group × List ℕ) NestFault → Type 0

@@ -1,7 +1,5 @@
 //! The kinds of lines of a nested text.
-ghost use Rattle.std.specs.Prelude.{◌≡◌, ◌≤◌, ◌==◌, not, length, IfOk};
-ghost use Rattle.std.specs.List.{prefix_len};
-ghost use Rattle.unit_tree.specs.Lines.{code_of};
+ghost use Rattle.std.specs.Prelude.{◌≡◌, ◌==◌, IfOk};
 ghost use Rattle.nest_text.specs.NestLines.{IsKind};
 ghost use Rattle.nest_text.specs.Nests.{is_main};
 ghost use Rattle.nest_text.specs.Reading.{begins_group, connects, group_kind, in_kind, keyword_kind, kind_of, main_kind, name_begun, named_kind, opens, out_kind};
@@ -9,11 +7,9 @@ ghost use Rattle.nest_text.specs.Reading.{begins_group, connects, group_kind, in
 use crate::nest::Bind;
 use fixed_words::{List, NoMemory};
 use std::alloc::{AllocError, Global};
+use text_lines::code;
 use text_tokens::{Unread, tokens};
 use unit_tree::{Keyword, Name, PortName, Symbol, Token};
-
-/// The byte that begins a comment.
-const COMMENT: u8 = b'#';
 
 /// The names that the lines of parts begin with.
 const GROUP: &[u8] = b"group";
@@ -72,21 +68,6 @@ impl LineKind {
     {
         matches!(self, LineKind::Main)
     }
-}
-
-/// How many bytes come before the comment.
-fn code_length(line: &[u8]) -> usize
-    ensures length { result ≡ prefix_len (λ byte. not (byte == 35)) line.now }
-    ensures within { result ≤ length line.now }
-{
-    line.iter().take_while(|byte| **byte != COMMENT).count()
-}
-
-/// The bytes before the comment.
-fn code(line: &[u8]) -> &[u8]
-    ensures { result.now ≡ code_of line.now }
-{
-    line.split_at(code_length(line)).0
 }
 
 fn copied(alloc: Global, name: &Name) -> Result<Name, NoMemory>

@@ -51,7 +51,7 @@ fn is_main_line(alloc: Global, line: &[u8]) -> Result<bool, NoMemory>
 fn find_main(alloc: Global, text: &[u8]) -> Result<Option<(&[u8], u32, &[u8])>, NoMemory>
     requires { length text.now ≤ text_limit }
     ensures main { IfOk result (λ found. OfLines 1 text.now (λ lines. MainIs lines found)) }
-    ensures front { IfOk result (λ found. IfSome found (λ cut. length cut.0.now ≤ length text.now)) }
+    ensures prefix { IfOk result (λ found. IfSome found (λ cut. length cut.0.now ≤ length text.now)) }
     ensures rest { IfOk result (λ found. IfSome found (λ cut. cut.1 + length cut.2.now ≤ length text.now)) }
 {
     let mut rest = text;
@@ -60,8 +60,8 @@ fn find_main(alloc: Global, text: &[u8]) -> Result<Option<(&[u8], u32, &[u8])>, 
         let (line, behind) = cut_line(rest);
         number += 1;
         if is_main_line(alloc, without_return(line))? {
-            let front = text.split_at(text.len() - rest.len()).0;
-            return Ok(Some((front, number, behind)));
+            let prefix = text.split_at(text.len() - rest.len()).0;
+            return Ok(Some((prefix, number, behind)));
         }
         rest = behind;
     }
@@ -72,7 +72,7 @@ fn find_main(alloc: Global, text: &[u8]) -> Result<Option<(&[u8], u32, &[u8])>, 
 pub(crate) fn cut_parts(alloc: Global, text: &[u8]) -> Result<(&[u8], u32, &[u8]), NestFault>
     requires { length text.now ≤ text_limit }
     ensures cut { CutAnswers text.now result }
-    ensures front { IfOk result (λ cut. length cut.0.now ≤ text_limit) }
+    ensures prefix { IfOk result (λ cut. length cut.0.now ≤ text_limit) }
     ensures rest { IfOk result (λ cut. cut.1 + length cut.2.now ≤ text_limit) }
 {
     let Some(cut) = find_main(alloc, text)? else {

@@ -42,8 +42,8 @@ pub fn read_nest(alloc: Global, text: &[u8]) -> Result<Nest, NestFault>
             rule: Rule::TextFits.number(),
         });
     }
-    let (front, main_line, rest) = cut_parts(alloc, text)?;
-    let (groups, lines) = read_groups(alloc, front)?;
+    let (prefix, main_line, rest) = cut_parts(alloc, text)?;
+    let (groups, lines) = read_groups(alloc, prefix)?;
     let main = read_main(alloc, rest, main_line)?;
     Ok(Nest {
         main,

@@ -1,69 +1,19 @@
 -- Lists of ports with each port once, and inputs that are visited in turn or level by level.
 use Rattle.std.proofs.Common.{◌≡◌, ◌⊎◌, ℕ, zero, suc, Bool, true, false, List, [], ◌∷◌, ◌++◌, map, inl, inr, refl, sym, ap, ◌∙◌, append_assoc}
-use Rattle.std.proofs.Common.{append-nil, bytes_eq, Option, Some, None}
-use Rattle.std.specs.Prelude.{◌&&◌, ◌||◌, if◌then◌else◌, is_none}
+use Rattle.std.proofs.Common.{append-nil, Option, Some, None}
+use Rattle.std.specs.Prelude.{◌||◌, if◌then◌else◌, is_none}
 use Rattle.std.specs.List.{flat_map, list_all, list_any}
 use Rattle.std.specs.Option.{option_map, unwrap_or}
-use Rattle.std.specs.Cmp.Lexicographic.{bytes_decides}
-use Rattle.std.proofs.lemmas.Bool.Decides.{nat_tests}
+use Rattle.std.proofs.lemmas.Bool.{and_parts}
 use Rattle.std.proofs.lemmas.Grind.{flat_map-append}
 use Rattle.std.proofs.lemmas.List.Folds.{list_any-append}
-use Rattle.std.proofs.Common.{arith}
 use Rattle.nest_text.specs.declared.nest.Nest.{Nest}
-use Rattle.unit_tree.specs.Names.{same_port}
 use Rattle.unit_tree.specs.declared.system.PortName.{PortName}
-use Rattle.nest_names.specs.Flattening.{distinct, expand, ins_in, is_component, place_at, reach, same_group, same_spot, spot_in, inside}
+use Rattle.nest_names.specs.Flattening.{distinct, expand, ins_in, is_component, place_at, reach, same_spot, spot_in, inside}
 use Rattle.nest_ways.specs.Reaching.{IsIn, SameKept, all_ends}
-use Rattle.nest_names.specs.declared.scope.Scope.{Scope}
+use Rattle.nest_names.specs.declared.scope.GroupScope.{GroupScope}
 use Rattle.nest_names.specs.declared.scope.Spot.{Spot}
-
--- ---- The same port
-
-and_first : (one other : Bool) → (one && other) ≡ true → one ≡ true
-and_first true other is = refl
-and_first false other is = is
-
-and_second : (one other : Bool) → (one && other) ≡ true → other ≡ true
-and_second true other is = is
-and_second false other is = let never : false ≡ true = is in absurd (cc)
-
-group_is : (one other : Option ℕ) → same_group one other ≡ true → one ≡ other
-group_is None None is = refl
-group_is (Some one) (Some other) is = let same : one ≡ other = grind (arith, nat_tests, is) in ap (λ n. Some n) same
-group_is None (Some other) is = let never : false ≡ true = is in absurd (cc)
-group_is (Some one) None is = let never : false ≡ true = is in absurd (cc)
-
-group_self : (one : Option ℕ) → same_group one one ≡ true
-group_self None = refl
-group_self (Some one) = grind (arith, nat_tests)
-
-pub scope_is : (one other : Scope) → bytes_eq one.prefix other.prefix ≡ true → same_group one.group other.group ≡ true → one ≡ other
-scope_is one other prefix group =
-    let same = (bytes_decides one.prefix other.prefix).0 prefix in
-    let both = group_is one.group other.group group in λ i. record { prefix = same i; group = both i }
-
-pub port_is : (one other : PortName) → same_port one other ≡ true → one ≡ other
-port_is one other is =
-    let instance = (bytes_decides one.instance other.instance).0
-    (and_first (bytes_eq one.instance other.instance) (bytes_eq one.port other.port) is) in
-    let port = (bytes_decides one.port other.port).0 (and_second (bytes_eq one.instance other.instance) (bytes_eq one.port other.port) is) in
-    λ i. record { instance = instance i; port = port i }
-
-same_is : (one other : Spot) → same_spot one other ≡ true → one ≡ other
-same_is one other is =
-    let prefix = bytes_eq one.scope.prefix other.scope.prefix in
-    let group = same_group one.scope.group other.scope.group in
-    let port = same_port one.port other.port in
-    let rest = and_second prefix (group && port) is in
-    let scope = scope_is one.scope other.scope (and_first prefix (group && port) is) (and_first group port rest) in
-    let ports = port_is one.port other.port (and_second group port rest) in λ i. record { scope = scope i; port = ports i }
-
-same_self : (one : Spot) → same_spot one one ≡ true
-same_self one =
-    ap (λ told. told && (same_group one.scope.group one.scope.group && same_port one.port one.port)) ((bytes_decides one.scope.prefix one.scope.prefix).1 refl)
-    ∙ ap (λ told. told && same_port one.port one.port) (group_self one.scope.group)
-    ∙ ap (λ told. told && bytes_eq one.port.port one.port.port) ((bytes_decides one.port.instance one.port.instance).1 refl)
-    ∙ (bytes_decides one.port.port one.port.port).1 refl
+use Rattle.nest_names.proofs.SameSpots.{spot_is, spot_self}
 
 -- ---- Ports in a list
 
@@ -87,13 +37,13 @@ in_either one front behind is =
     either (list_any (same_spot one) front) (list_any (same_spot one) behind) (sym (list_any-append (same_spot one) front behind) ∙ is)
 
 pub in_first : (one : Spot) (others : List Spot) → IsIn one (one ∷ others)
-in_first one others = ap (λ told. told || list_any (same_spot one) others) (same_self one)
+in_first one others = ap (λ told. told || list_any (same_spot one) others) (spot_self one)
 
 in_one : (one other : Spot) → IsIn one (other ∷ []) → one ≡ other
 in_one one other is = by (same_spot one other) refl is
   where
     by : (told : Bool) → same_spot one other ≡ told → (told || false) ≡ true → one ≡ other
-    by true told is = same_is one other told
+    by true told is = spot_is one other told
     by false told is = let never : false ≡ true = is in absurd (cc)
 
 -- ---- What is kept
@@ -256,7 +206,7 @@ none_at (Some place) is = let never : false ≡ true = is in absurd (cc)
 expand_component : (nest : Nest) (spot : Spot) → place_at nest spot.scope.group spot.port.instance ≡ None → expand nest spot ≡ spot ∷ []
 expand_component nest spot at =
     ap
-    (λ found. unwrap_or (option_map (λ (scope : Scope). map (spot_in scope) (ins_in nest scope spot.port.port))
+    (λ found. unwrap_or (option_map (λ (scope : GroupScope). map (spot_in scope) (ins_in nest scope spot.port.port))
     (option_map (inside spot.scope spot.port.instance) found)) (spot ∷ [])) at
 
 pub ends_component : (nest : Nest) (depth : ℕ) (spot : Spot) → place_at nest spot.scope.group spot.port.instance ≡ None → all_ends nest depth spot ≡ spot ∷ []
@@ -269,9 +219,10 @@ ends_components nest depth [] all = refl
 ends_components nest depth (spot ∷ spots) all =
     let first = is_component nest spot in
     let others = list_all (is_component nest) spots in
+    let both = and_parts first others all in
     ap (λ front. front ++ flat_map (all_ends nest depth) spots)
-    (ends_component nest depth spot (none_at (place_at nest spot.scope.group spot.port.instance) (and_first first others all)))
-    ∙ ap (λ rest. spot ∷ rest) (ends_components nest depth spots (and_second first others all))
+    (ends_component nest depth spot (none_at (place_at nest spot.scope.group spot.port.instance) both.0))
+    ∙ ap (λ rest. spot ∷ rest) (ends_components nest depth spots both.1)
 
 -- The same inputs are reached level by level, with each port once, as path by path.
 reach_all : (nest : Nest) (depth : ℕ) (spots : List Spot) → reach nest depth (distinct [] spots) ≡ distinct [] (flat_map (all_ends nest depth) spots)

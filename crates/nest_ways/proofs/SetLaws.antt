@@ -1,10 +1,10 @@
 -- Sets of numbers by words, and inputs by their numbers.
 use Rattle.std.proofs.Common.{◌≡◌, ◌<◌, ◌⊎◌, ℕ, zero, suc, ◌+◌, ◌-◌, ◌*◌, ◌≤◌, List, [], ◌∷◌, ◌++◌, Option, Some, set}
 use Rattle.std.proofs.Common.{refl, sym, ap, ◌∙◌, drop, subst, arith, inl, inr}
-use Rattle.std.specs.Prelude.{bit_or, slice_get}
+use Rattle.std.specs.Prelude.{bit_or, max, slice_get}
 use Rattle.std.specs.Int.{bit_at}
 use Rattle.std.proofs.lemmas.Bool.{cases_eq}
-use Rattle.std.proofs.lemmas.Nat.Bits.{bit_at-lt, bit_at-zero, bit_at_or}
+use Rattle.std.proofs.lemmas.Nat.Bits.{bit_at-lt, bit_at-zero, bit_at_or, same_from_bits}
 use Rattle.std.proofs.lemmas.Option.{same_Some, slice_get_within}
 use Rattle.list_laws.proofs.Members.{at_front, at_push, set_elsewhere, set_there}
 use Rattle.nest_ways.specs.Sets.{AreKeptSets, HasAll, HasAt, HasNumber, HasNumberAt, HasOnly, HasSame, IsAmong, IsInWord, IsKeptSet}
@@ -204,6 +204,19 @@ word_either one other number is = by (cases_eq (bit_at one.bits number) 1)
     by (inl here) = inl here
     by (inr not_here) =
         inr (omega (arith, is, not_here, bit_at_or one.bits other.bits number, bit_at-lt one.bits number, bit_at-lt other.bits number))
+
+-- Each number of one word is in the other: the bits of both are those of the other.
+pub word_covers : (one other : SetWord) → ((number : ℕ) → IsInWord one number → IsInWord other number) → bit_or one.bits other.bits ≡ other.bits
+word_covers one other within = same_from_bits (bit_or one.bits other.bits) other.bits (λ number. bit_at_or one.bits other.bits number ∙ by number (cases_eq (bit_at one.bits number) 1))
+  where
+    by : (number : ℕ) → IsInWord one number ⊎ (IsInWord one number → ⊥) → max (bit_at one.bits number) (bit_at other.bits number) ≡ bit_at other.bits number
+    by number (inl here) = let there = within number here in omega (arith, here, there)
+    by number (inr not_here) = omega (arith, not_here, bit_at-lt one.bits number)
+
+-- A number of either word is one of both.
+pub either_word : (one other : SetWord) (number : ℕ) → IsInWord one number ⊎ IsInWord other number → bit_at (bit_or one.bits other.bits) number ≡ 1
+either_word one other number (inl is) = omega (arith, is, bit_at_or one.bits other.bits number, bit_at-lt other.bits number)
+either_word one other number (inr is) = omega (arith, is, bit_at_or one.bits other.bits number, bit_at-lt one.bits number)
 
 -- ---- What was added from scopes
 

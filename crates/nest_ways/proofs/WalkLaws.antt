@@ -9,7 +9,7 @@ use Rattle.std.proofs.lemmas.Option.{same_Some}
 use Rattle.nest_text.specs.declared.nest.Bind.{Bind}
 use Rattle.nest_text.specs.declared.nest.Nest.{Nest}
 use Rattle.nest_names.specs.Flattening.{distinct}
-use Rattle.nest_names.specs.declared.scope.Scope.{Scope}
+use Rattle.nest_names.specs.declared.scope.GroupScope.{GroupScope}
 use Rattle.nest_names.specs.declared.scope.Spot.{Spot}
 use Rattle.nest_ways.specs.Reaching.{AreAlike, IsIn, KeepsAll, LeadsHere, LeadsInside, PutsIf, PutsOnce, PutsUpTo, ReadsAlike, SameKept}
 use Rattle.nest_ways.specs.Reaching.{ends_of, input_at, inputs_at, lines_of, onward}
@@ -59,7 +59,7 @@ upto_none old more = (more, λ kept. refl)
 
 -- ---- Finished inputs
 
-done_by : (nest : Nest) (scopes : List Scope) (base offset : ℕ) (known : Known) (old new : List End) (more : List Spot)
+done_by : (nest : Nest) (scopes : List GroupScope) (base offset : ℕ) (known : Known) (old new : List End) (more : List Spot)
     → SameKept (inputs_at nest scopes base new) (inputs_at nest scopes base old ++ more) → IsDone nest scopes base old offset known
     → IsDone nest scopes base new offset known
 done_by nest scopes base offset known old new more same done scope depth one at of_group within leads =
@@ -67,9 +67,9 @@ done_by nest scopes base offset known old new more same done scope depth one at 
     same_there (inputs_at nest scopes base new) (before ++ more) one same (in_front one before more (done scope depth one at of_group within leads))
 
 -- What is finished stays finished when more is added.
-pub done_more : (nest : Nest) (scopes : List Scope) (group_scopes : GroupScopes) (kept_sets : KeptSets) (all : List Known) (base group place : ℕ) (old new : Walk)
-    (more : Scope → List Spot) → IsScopeAt scopes place group → new.done ≡ old.done → new.put ≡ old.put
-    → ((scope : Scope) → slice_get scopes place ≡ Some scope → scope.group ≡ Some group
+pub done_more : (nest : Nest) (scopes : List GroupScope) (group_scopes : GroupScopes) (kept_sets : KeptSets) (all : List Known) (base group place : ℕ) (old new : Walk)
+    (more : GroupScope → List Spot) → IsScopeAt scopes place group → new.done ≡ old.done → new.put ≡ old.put
+    → ((scope : GroupScope) → slice_get scopes place ≡ Some scope → scope.group ≡ Some group
     → SameKept (inputs_at nest scopes base new.ends) (inputs_at nest scopes base old.ends ++ more scope))
     → AreDone nest scopes group_scopes kept_sets all base old → AreDone nest scopes group_scopes kept_sets all base new
 done_more nest scopes group_scopes kept_sets all base group place old new more there still still_put puts are = record {
@@ -90,10 +90,10 @@ done_more nest scopes group_scopes kept_sets all base group place old new more t
 
 -- ---- Inputs that are kept
 
-pub kept_puts : (nest : Nest) (scopes : List Scope) (firsts : List ℕ) (base group offset : ℕ) (known : Known) (kept old new : List End) (whole : Bool)
+pub kept_puts : (nest : Nest) (scopes : List GroupScope) (firsts : List ℕ) (base group offset : ℕ) (known : Known) (kept old new : List End) (whole : Bool)
     → AreAlike scopes group firsts → IsScopeAt scopes base group → KeepsAll nest scopes known kept
     → ((f : End → List Spot) → ReadsAlike firsts f → PutsUpTo whole (flat_map f new) (flat_map f (old ++ map (onward offset) kept)))
-    → (scope : Scope) (depth : ℕ) → slice_get scopes (base + offset) ≡ Some scope → scope.group ≡ Some known.group → known.height ≤ depth
+    → (scope : GroupScope) (depth : ℕ) → slice_get scopes (base + offset) ≡ Some scope → scope.group ≡ Some known.group → known.height ≤ depth
     → PutsUpTo whole (inputs_at nest scopes base new)
     (inputs_at nest scopes base old ++ ends_of nest depth scope (lines_of nest known.group known.port.now))
 kept_puts nest scopes firsts base group offset known kept old new whole alike start keeps puts scope depth at of_group within =
@@ -111,9 +111,9 @@ kept_puts nest scopes firsts base group offset known kept old new whole alike st
 
 -- ---- A step to a component
 
-pub component_puts : (nest : Nest) (scopes : List Scope) (base offset line : ℕ) (known : Known) (bind : Bind) (end : End) (old new : List End)
+pub component_puts : (nest : Nest) (scopes : List GroupScope) (base offset line : ℕ) (known : Known) (bind : Bind) (end : End) (old new : List End)
     → end.scope ≡ offset → end.line ≡ line → LeadsHere nest known.group line bind → PutsOnce end old new
-    → (scope : Scope) (depth : ℕ) → slice_get scopes (base + offset) ≡ Some scope → scope.group ≡ Some known.group
+    → (scope : GroupScope) (depth : ℕ) → slice_get scopes (base + offset) ≡ Some scope → scope.group ≡ Some known.group
     → SameKept (inputs_at nest scopes base new) (inputs_at nest scopes base old ++ ends_of nest depth scope (bind ∷ []))
 component_puts nest scopes base offset line known bind end old new here is leads puts scope depth at of_group =
     let before = inputs_at nest scopes base old in
@@ -125,14 +125,14 @@ component_puts nest scopes base offset line known bind end old new here is leads
     (component_at nest scopes base known.group depth line scope bind end (ap (λ n. slice_get scopes (base + n)) here ∙ at) of_group is leads)))
 
 -- Nothing was added.
-pub walks_none : (nest : Nest) (scopes : List Scope) (group_scopes : GroupScopes) (kept_sets : KeptSets) (all : List Known) (base offset : ℕ) (known : Known) (walk : Walk) (binds : List Bind)
+pub walks_none : (nest : Nest) (scopes : List GroupScope) (group_scopes : GroupScopes) (kept_sets : KeptSets) (all : List Known) (base offset : ℕ) (known : Known) (walk : Walk) (binds : List Bind)
     → WalksOn nest scopes group_scopes kept_sets all base offset known walk walk false binds
 walks_none nest scopes group_scopes kept_sets all base offset known walk binds = record {
   puts = λ scope depth at of_group within. upto_none (inputs_at nest scopes base walk.ends) (ends_of nest depth scope binds);
   done = λ told. let never : false ≡ true = told in absurd (cc);
 }
 
-pub component_walks : (nest : Nest) (scopes : List Scope) (group_scopes : GroupScopes) (kept_sets : KeptSets) (all : List Known) (base offset line : ℕ) (known : Known) (bind : Bind) (end : End)
+pub component_walks : (nest : Nest) (scopes : List GroupScope) (group_scopes : GroupScopes) (kept_sets : KeptSets) (all : List Known) (base offset line : ℕ) (known : Known) (bind : Bind) (end : End)
     (old new : Walk) (whole : Bool) → IsScopeAt scopes (base + offset) known.group → AreDone nest scopes group_scopes kept_sets all base old
     → end.scope ≡ offset → end.line ≡ line → LeadsHere nest known.group line bind → PutsIf whole end old.ends new.ends
     → new.done ≡ old.done → new.put ≡ old.put → WalksOn nest scopes group_scopes kept_sets all base offset known old new whole (bind ∷ [])
@@ -153,7 +153,7 @@ component_walks nest scopes group_scopes kept_sets all base offset line known bi
 
 -- ---- A step into a group
 
-pub inside_walks : (nest : Nest) (scopes : List Scope) (group_scopes : GroupScopes) (kept_sets : KeptSets) (all : List Known) (base offset : ℕ) (known : Known) (step : Inside) (bind : Bind)
+pub inside_walks : (nest : Nest) (scopes : List GroupScope) (group_scopes : GroupScopes) (kept_sets : KeptSets) (all : List Known) (base offset : ℕ) (known : Known) (step : Inside) (bind : Bind)
     (inlet : Inlet) (old new : Walk) (whole : Bool) → inlet.input ≡ step.input
     → slice_get scopes (base + inlet.scope) ≡ slice_get scopes (base + (offset + step.offset))
     → LeadsInside nest scopes all known.group known.height step bind → WalksWhole nest scopes group_scopes kept_sets all base inlet old new whole
@@ -166,7 +166,7 @@ inside_walks nest scopes group_scopes kept_sets all base offset known step bind 
     inner : WalksOn nest scopes group_scopes kept_sets all base inlet.scope leads.inner old new whole (lines_of nest leads.inner.group leads.inner.port.now)
     inner = walks leads.inner (ap (slice_get all) input ∙ leads.there)
 
-    by : (scope : Scope) (depth : ℕ) → slice_get scopes (base + offset) ≡ Some scope → scope.group ≡ Some known.group → known.height ≤ depth
+    by : (scope : GroupScope) (depth : ℕ) → slice_get scopes (base + offset) ≡ Some scope → scope.group ≡ Some known.group → known.height ≤ depth
         → PutsUpTo whole (inputs_at nest scopes base new.ends) (inputs_at nest scopes base old.ends ++ ends_of nest depth scope (bind ∷ []))
     by scope depth at of_group within =
         let alike = leads.leads (base + offset) scope depth at of_group within in
@@ -175,7 +175,7 @@ inside_walks nest scopes group_scopes kept_sets all base offset known step bind 
         (inner.puts alike.onward alike.left (same ∙ ap (slice_get scopes) place ∙ alike.there) alike.of_group alike.within)
 
 -- The scope inside is one of its group.
-pub inside_there : (nest : Nest) (scopes : List Scope) (all : List Known) (base offset : ℕ) (known : Known) (step : Inside) (bind : Bind) (inlet : Inlet)
+pub inside_there : (nest : Nest) (scopes : List GroupScope) (all : List Known) (base offset : ℕ) (known : Known) (step : Inside) (bind : Bind) (inlet : Inlet)
     → inlet.input ≡ step.input → slice_get scopes (base + inlet.scope) ≡ slice_get scopes (base + (offset + step.offset))
     → LeadsInside nest scopes all known.group known.height step bind → IsScopeAt scopes (base + offset) known.group → IsInletAt scopes all base inlet
 inside_there nest scopes all base offset known step bind inlet input same leads at one found =
@@ -189,7 +189,7 @@ inside_there nest scopes all base offset known step bind inlet input same leads 
 
 -- ---- Steps in turn
 
-pub walks_nothing : (nest : Nest) (scopes : List Scope) (group_scopes : GroupScopes) (kept_sets : KeptSets) (all : List Known) (base offset : ℕ) (known : Known) (walk : Walk) → AreDone nest scopes group_scopes kept_sets all base walk
+pub walks_nothing : (nest : Nest) (scopes : List GroupScope) (group_scopes : GroupScopes) (kept_sets : KeptSets) (all : List Known) (base offset : ℕ) (known : Known) (walk : Walk) → AreDone nest scopes group_scopes kept_sets all base walk
     → WalksOn nest scopes group_scopes kept_sets all base offset known walk walk true []
 walks_nothing nest scopes group_scopes kept_sets all base offset known walk done = record {
   puts = λ scope depth at of_group within.
@@ -198,7 +198,7 @@ walks_nothing nest scopes group_scopes kept_sets all base offset known walk done
   done = λ told. done;
 }
 
-pub walks_more : (nest : Nest) (scopes : List Scope) (group_scopes : GroupScopes) (kept_sets : KeptSets) (all : List Known) (base offset : ℕ) (known : Known) (old now new : Walk) (whole : Bool)
+pub walks_more : (nest : Nest) (scopes : List GroupScope) (group_scopes : GroupScopes) (kept_sets : KeptSets) (all : List Known) (base offset : ℕ) (known : Known) (old now new : Walk) (whole : Bool)
     (ones others both : List Bind) → WalksOn nest scopes group_scopes kept_sets all base offset known old now true ones
     → WalksOn nest scopes group_scopes kept_sets all base offset known now new whole others → both ≡ ones ++ others → WalksOn nest scopes group_scopes kept_sets all base offset known old new whole both
 walks_more nest scopes group_scopes kept_sets all base offset known old now new whole ones others both first then_ is = record {
@@ -211,7 +211,7 @@ walks_more nest scopes group_scopes kept_sets all base offset known old now new 
   done = then_.done;
 }
 
-pub walks_stop : (nest : Nest) (scopes : List Scope) (group_scopes : GroupScopes) (kept_sets : KeptSets) (all : List Known) (base offset : ℕ) (known : Known) (old new : Walk)
+pub walks_stop : (nest : Nest) (scopes : List GroupScope) (group_scopes : GroupScopes) (kept_sets : KeptSets) (all : List Known) (base offset : ℕ) (known : Known) (old new : Walk)
     (ones others both : List Bind) → WalksOn nest scopes group_scopes kept_sets all base offset known old new false ones → both ≡ ones ++ others
     → WalksOn nest scopes group_scopes kept_sets all base offset known old new false both
 walks_stop nest scopes group_scopes kept_sets all base offset known old new ones others both walks is = record {
@@ -227,7 +227,7 @@ walks_stop nest scopes group_scopes kept_sets all base offset known old new ones
 
 -- ---- Inputs that are finished
 
-pub walks_done : (nest : Nest) (scopes : List Scope) (group_scopes : GroupScopes) (kept_sets : KeptSets) (all : List Known) (base offset : ℕ) (known : Known) (walk : Walk)
+pub walks_done : (nest : Nest) (scopes : List GroupScope) (group_scopes : GroupScopes) (kept_sets : KeptSets) (all : List Known) (base offset : ℕ) (known : Known) (walk : Walk)
     → AreDone nest scopes group_scopes kept_sets all base walk → IsDone nest scopes base walk.ends offset known
     → WalksOn nest scopes group_scopes kept_sets all base offset known walk walk true (lines_of nest known.group known.port.now)
 walks_done nest scopes group_scopes kept_sets all base offset known walk are done = record {
@@ -238,7 +238,7 @@ walks_done nest scopes group_scopes kept_sets all base offset known walk are don
 }
 
 -- An input for which all was added is finished.
-pub is_done_now : (nest : Nest) (scopes : List Scope) (group_scopes : GroupScopes) (kept_sets : KeptSets) (all : List Known) (base offset : ℕ) (known : Known) (old new : Walk)
+pub is_done_now : (nest : Nest) (scopes : List GroupScope) (group_scopes : GroupScopes) (kept_sets : KeptSets) (all : List Known) (base offset : ℕ) (known : Known) (old new : Walk)
     → WalksOn nest scopes group_scopes kept_sets all base offset known old new true (lines_of nest known.group known.port.now) → IsDone nest scopes base new.ends offset known
 is_done_now nest scopes group_scopes kept_sets all base offset known old new walks scope depth one at of_group within is =
     let before = inputs_at nest scopes base old.ends in
@@ -252,7 +252,7 @@ same_offset group_scopes group number base one other here there =
     let same : base + one ≡ base + other = same_Some (base + one) (base + other) (sym here ∙ there) in omega (arith, same)
 
 -- One more input is finished, in one scope.
-pub done_with : (nest : Nest) (scopes : List Scope) (group_scopes : GroupScopes) (kept_sets : KeptSets) (all : List Known) (base number : ℕ) (old new : Walk) (inlet : Inlet)
+pub done_with : (nest : Nest) (scopes : List GroupScope) (group_scopes : GroupScopes) (kept_sets : KeptSets) (all : List Known) (base number : ℕ) (old new : Walk) (inlet : Inlet)
     → AreDone nest scopes group_scopes kept_sets all base old
     → ((known : Known) → slice_get all inlet.input ≡ Some known → IsDone nest scopes base old.ends inlet.scope known)
     → ((known : Known) → slice_get all inlet.input ≡ Some known → IsNumbered group_scopes known.group number (base + inlet.scope))
@@ -297,7 +297,7 @@ flat_from f (first ∷ ends) one is = by (flat_from f ends one) (in_either one (
     by further (inr later) = let from = further later in (from.0, (suc from.1.0, from.1.1), from.2)
 
 -- The kept inputs of one more input were added, in one scope.
-pub put_with : (nest : Nest) (scopes : List Scope) (group_scopes : GroupScopes) (kept_sets : KeptSets) (all : List Known) (base offset : ℕ) (known : Known)
+pub put_with : (nest : Nest) (scopes : List GroupScope) (group_scopes : GroupScopes) (kept_sets : KeptSets) (all : List Known) (base offset : ℕ) (known : Known)
     (kept : List End) (set : NumberSet) (old new : Walk) → IsScopeAt scopes (base + offset) known.group → KeepsAll nest scopes known kept
     → HasOnly kept_sets.numbered set kept → IsDone nest scopes base old.ends offset known → new.ends ≡ old.ends → new.done ≡ old.done
     → ((other number : ℕ) → HasNumberAt new.put.sets.items other number → ((other ≡ offset) × HasNumber set number) ⊎ HasNumberAt old.put.sets.items other number)
@@ -331,7 +331,7 @@ put_with nest scopes group_scopes kept_sets all base offset known kept set old n
         now end one (subst (λ each. IsAmong each kept) same own.2) (subst (λ n. IsIn one (input_at nest scopes (base + n) end)) here.0 is)
 
 -- Where all that is kept for an input was added, all that it reaches was.
-pub put_whole : (nest : Nest) (scopes : List Scope) (group_scopes : GroupScopes) (kept_sets : KeptSets) (all : List Known) (base offset : ℕ) (known : Known)
+pub put_whole : (nest : Nest) (scopes : List GroupScope) (group_scopes : GroupScopes) (kept_sets : KeptSets) (all : List Known) (base offset : ℕ) (known : Known)
     (kept : List End) (set : NumberSet) (walk : Walk) → KeepsAll nest scopes known kept → HasAll kept_sets.numbered set kept
     → ((number : ℕ) → HasNumber set number → HasNumberAt walk.put.sets.items offset number)
     → AreDone nest scopes group_scopes kept_sets all base walk → IsDone nest scopes base walk.ends offset known
@@ -344,7 +344,7 @@ put_whole nest scopes group_scopes kept_sets all base offset known kept set walk
     are.ends offset number.0 from.0 one (put number.0 number.1) number.2 from.2
 
 -- The walk after that is the same, except for its records.
-pub walks_same : (nest : Nest) (scopes : List Scope) (group_scopes : GroupScopes) (kept_sets : KeptSets) (all : List Known) (base offset : ℕ) (known : Known) (old now new : Walk) (binds : List Bind)
+pub walks_same : (nest : Nest) (scopes : List GroupScope) (group_scopes : GroupScopes) (kept_sets : KeptSets) (all : List Known) (base offset : ℕ) (known : Known) (old now new : Walk) (binds : List Bind)
     → WalksOn nest scopes group_scopes kept_sets all base offset known old now true binds → new.ends ≡ now.ends → AreDone nest scopes group_scopes kept_sets all base new
     → WalksOn nest scopes group_scopes kept_sets all base offset known old new true binds
 walks_same nest scopes group_scopes kept_sets all base offset known old now new binds walks same done = record {
@@ -355,7 +355,7 @@ walks_same nest scopes group_scopes kept_sets all base offset known old now new 
 }
 
 -- A property of the input at the place is one of each input that is found there.
-pub whole_of : (nest : Nest) (scopes : List Scope) (group_scopes : GroupScopes) (kept_sets : KeptSets) (all : List Known) (base : ℕ) (inlet : Inlet) (known : Known) (old new : Walk) (whole : Bool)
+pub whole_of : (nest : Nest) (scopes : List GroupScope) (group_scopes : GroupScopes) (kept_sets : KeptSets) (all : List Known) (base : ℕ) (inlet : Inlet) (known : Known) (old new : Walk) (whole : Bool)
     → slice_get all inlet.input ≡ Some known
     → WalksOn nest scopes group_scopes kept_sets all base inlet.scope known old new whole (lines_of nest known.group known.port.now)
     → WalksWhole nest scopes group_scopes kept_sets all base inlet old new whole

@@ -17,7 +17,7 @@ use Rattle.nest_ways.specs.Reaching.{AreAlike, AreKnown, AreSteps, IsIn, IsKnown
 use Rattle.nest_ways.specs.Reaching.{Puts, PutsOnce, PutsUpTo, ReadsAlike, SameKept, all_ends, ends_of, input_at, inputs_at, ins_of, lines_of, onward}
 use Rattle.nest_ways.specs.Walking.{reached_inside}
 use Rattle.nest_names.specs.Tables.{items_at}
-use Rattle.nest_names.specs.declared.scope.Scope.{Scope}
+use Rattle.nest_names.specs.declared.scope.GroupScope.{GroupScope}
 use Rattle.nest_names.specs.declared.scope.Spot.{Spot}
 use Rattle.nest_ways.specs.declared.ends.End.{End}
 use Rattle.nest_ways.specs.declared.steps.Inside.{Inside}
@@ -101,17 +101,17 @@ onward_stop f offset old now inner place so_far =
 
 -- ---- Lines in turn
 
-pub ends_append : (nest : Nest) (depth : ℕ) (scope : Scope) (ones others : List Bind)
+pub ends_append : (nest : Nest) (depth : ℕ) (scope : GroupScope) (ones others : List Bind)
     → ends_of nest depth scope (ones ++ others) ≡ ends_of nest depth scope ones ++ ends_of nest depth scope others
 ends_append nest depth scope ones others =
     ap (flat_map (all_ends nest depth)) (map-append (spot_in scope) ones others)
     ∙ flat_map-append (all_ends nest depth) (map (spot_in scope) ones) (map (spot_in scope) others)
 
-pub puts_nothing : (nest : Nest) (scopes : List Scope) (group height : ℕ) (ends : List End) → Puts nest scopes group height ends ends []
+pub puts_nothing : (nest : Nest) (scopes : List GroupScope) (group height : ℕ) (ends : List End) → Puts nest scopes group height ends ends []
 puts_nothing nest scopes group height ends base scope depth at is within =
     same_of (inputs_at nest scopes base ends) (inputs_at nest scopes base ends ++ []) (sym (append-nil (inputs_at nest scopes base ends)))
 
-pub puts_more : (nest : Nest) (scopes : List Scope) (group height : ℕ) (old now new : List End) (first then_ all : List Bind)
+pub puts_more : (nest : Nest) (scopes : List GroupScope) (group height : ℕ) (old now new : List End) (first then_ all : List Bind)
     → Puts nest scopes group height old now first → Puts nest scopes group height now new then_ → all ≡ first ++ then_
     → Puts nest scopes group height old new all
 puts_more nest scopes group height old now new first then_ all puts more is base scope depth at of_group within =
@@ -126,20 +126,20 @@ puts_more nest scopes group height old now new first then_ all puts more is base
 
 -- ---- A line that leads to a component
 
-same_spot_in : (scope : Scope) (bind : Bind) (found : Option Bind) → option_map (λ (one : Bind). one.inner) found ≡ Some bind.inner
+same_spot_in : (scope : GroupScope) (bind : Bind) (found : Option Bind) → option_map (λ (one : Bind). one.inner) found ≡ Some bind.inner
     → option_map (spot_in scope) found ≡ Some (spot_in scope bind)
 same_spot_in scope bind None is = let never : None ≡ Some bind.inner = is in absurd (cc)
 same_spot_in scope bind (Some one) is =
     let some : Some one.inner ≡ Some bind.inner = is in
     let same : one.inner ≡ bind.inner = cc in ap (λ port. Some (record { scope = scope; port = port })) same
 
-pub component_at : (nest : Nest) (scopes : List Scope) (base group depth line : ℕ) (scope : Scope) (bind : Bind) (end : End)
+pub component_at : (nest : Nest) (scopes : List GroupScope) (base group depth line : ℕ) (scope : GroupScope) (bind : Bind) (end : End)
     → slice_get scopes (base + end.scope) ≡ Some scope → scope.group ≡ Some group → end.line ≡ line → LeadsHere nest group line bind
     → input_at nest scopes base end ≡ ends_of nest depth scope (bind ∷ [])
 component_at nest scopes base group depth line scope bind end at of_group is leads =
     ap
     (λ found.
-    option_to_list (option_and_then (λ (one : Scope). option_map (spot_in one) (slice_get (ins_of nest one.group) end.line)) found))
+    option_to_list (option_and_then (λ (one : GroupScope). option_map (spot_in one) (slice_get (ins_of nest one.group) end.line)) found))
     at
     ∙ ap option_to_list (same_spot_in scope bind (slice_get (ins_of nest scope.group) end.line)
     (ap (λ own. option_map (λ (one : Bind). one.inner) (slice_get (ins_of nest own) end.line)) of_group
@@ -148,7 +148,7 @@ component_at nest scopes base group depth line scope bind end at of_group is lea
     ∙ sym (append-nil (all_ends nest depth (spot_in scope bind))
     ∙ ends_component nest depth (spot_in scope bind) (ap (λ own. place_at nest own bind.inner.instance) of_group ∙ leads.component))
 
-pub puts_component : (nest : Nest) (scopes : List Scope) (group height : ℕ) (bind : Bind) (end : End) (old new : List End)
+pub puts_component : (nest : Nest) (scopes : List GroupScope) (group height : ℕ) (bind : Bind) (end : End) (old new : List End)
     → (end.scope ≡ 0) → LeadsHere nest group end.line bind → PutsOnce end old new → Puts nest scopes group height old new (bind ∷ [])
 puts_component nest scopes group height bind end old new here leads puts base scope depth at of_group within =
     let place : base + end.scope ≡ base = omega (arith, here) in
@@ -162,25 +162,25 @@ puts_component nest scopes group height bind end old new here leads puts base sc
 
 -- ---- A line that leads into a group
 
-pub onward_at : (nest : Nest) (scopes : List Scope) (base offset : ℕ) (ends : List End)
+pub onward_at : (nest : Nest) (scopes : List GroupScope) (base offset : ℕ) (ends : List End)
     → inputs_at nest scopes base (map (onward offset) ends) ≡ inputs_at nest scopes (base + offset) ends
 onward_at nest scopes base offset [] = refl
 onward_at nest scopes base offset (end ∷ ends) =
     let place : base + (end.scope + offset) ≡ base + offset + end.scope = omega arith in
     ap
     (λ at.
-    option_to_list (option_and_then (λ (one : Scope). option_map (spot_in one) (slice_get (ins_of nest one.group) end.line)) (slice_get scopes at))
+    option_to_list (option_and_then (λ (one : GroupScope). option_map (spot_in one) (slice_get (ins_of nest one.group) end.line)) (slice_get scopes at))
     ++ inputs_at nest scopes base (map (onward offset) ends)) place
     ∙ ap (λ rest. input_at nest scopes (base + offset) end ++ rest) (onward_at nest scopes base offset ends)
 
-pub ends_inside : (nest : Nest) (scope : Scope) (bind : Bind) (place depth : ℕ) → place_at nest scope.group bind.inner.instance ≡ Some place
+pub ends_inside : (nest : Nest) (scope : GroupScope) (bind : Bind) (place depth : ℕ) → place_at nest scope.group bind.inner.instance ≡ Some place
     → all_ends nest (suc depth) (spot_in scope bind)
     ≡ flat_map (all_ends nest depth)
     (map (spot_in (inside scope bind.inner.instance place)) (ins_in nest (inside scope bind.inner.instance place) bind.inner.port))
 ends_inside nest scope bind place depth at = ap (flat_map (all_ends nest depth)) (expand_group nest (spot_in scope bind) place at)
 
 -- The line reaches what the inner input reaches.
-leads_ends : (nest : Nest) (group : ℕ) (bind : Bind) (inner : Known) (scope : Scope) (depth : ℕ)
+leads_ends : (nest : Nest) (group : ℕ) (bind : Bind) (inner : Known) (scope : GroupScope) (depth : ℕ)
     → place_at nest (Some group) bind.inner.instance ≡ Some inner.group → inner.port.now ≡ bind.inner.port → scope.group ≡ Some group
     → ends_of nest (suc depth) scope (bind ∷ [])
     ≡ ends_of nest depth (inside scope bind.inner.instance inner.group) (lines_of nest inner.group inner.port.now)
@@ -190,13 +190,13 @@ leads_ends nest group bind inner scope depth at named of_group =
     ∙ ends_inside nest scope bind place depth (ap (λ own. place_at nest own bind.inner.instance) of_group ∙ at)
     ∙ ap (λ port. ends_of nest depth (inside scope bind.inner.instance place) (lines_of nest place port)) (sym named)
 
-pub leads_inside : (nest : Nest) (scopes : List Scope) (all : List Known) (group height : ℕ) (step : Inside) (bind : Bind) (inner : Known)
+pub leads_inside : (nest : Nest) (scopes : List GroupScope) (all : List Known) (group height : ℕ) (step : Inside) (bind : Bind) (inner : Known)
     → slice_get all step.input ≡ Some inner → inner.height < height → place_at nest (Some group) bind.inner.instance ≡ Some inner.group
     → inner.port.now ≡ bind.inner.port → LeadsTo scopes group bind.inner.instance inner.group step.offset
     → LeadsInside nest scopes all group height step bind
 leads_inside nest scopes all group height step bind inner there low at named leads = record { inner = inner; there = there; leads = by }
   where
-    by : (base : ℕ) (scope : Scope) (depth : ℕ) → slice_get scopes base ≡ Some scope → scope.group ≡ Some group → height ≤ depth
+    by : (base : ℕ) (scope : GroupScope) (depth : ℕ) → slice_get scopes base ≡ Some scope → scope.group ≡ Some group → height ≤ depth
         → LeadsAlike nest scopes base step.offset depth scope bind inner
     by base scope zero here of_group within = absurd (omega (arith, low, within))
     by base scope (suc depth) here of_group within = record {
@@ -208,7 +208,7 @@ leads_inside nest scopes all group height step bind inner there low at named lea
       same = leads_ends nest group bind inner scope depth at named of_group;
     }
 
-past_first : (nest : Nest) (scopes : List Scope) (all : List Known) (group height : ℕ) (step past : Inside) (bind : Bind)
+past_first : (nest : Nest) (scopes : List GroupScope) (all : List Known) (group height : ℕ) (step past : Inside) (bind : Bind)
     (first : LeadsInside nest scopes all group height step bind) → IsKnown nest scopes all first.inner → IsPast first.inner.steps.items step past
     → LeadsInside nest scopes all group height past bind
 past_first nest scopes all group height step past bind first known (inl same) =
@@ -233,7 +233,7 @@ past_first nest scopes all group height step past bind first known (inr (onward,
         second : LeadsInside nest scopes all middle.group middle.height onward next
         second = are.0
 
-        further : (base : ℕ) (scope : Scope) (depth : ℕ) → slice_get scopes base ≡ Some scope → scope.group ≡ Some group → height ≤ depth
+        further : (base : ℕ) (scope : GroupScope) (depth : ℕ) → slice_get scopes base ≡ Some scope → scope.group ≡ Some group → height ≤ depth
             → LeadsAlike nest scopes base past.offset depth scope bind second.inner
         further base scope depth here of_group within =
             let one = first.leads base scope depth here of_group within in
@@ -249,7 +249,7 @@ past_first nest scopes all group height step past bind first known (inr (onward,
             }
 
 -- Past an input whose only line leads into a group.
-pub leads_past : (nest : Nest) (scopes : List Scope) (all : List Known) (group height : ℕ) (step past : Inside) (bind : Bind) (middle : Known)
+pub leads_past : (nest : Nest) (scopes : List GroupScope) (all : List Known) (group height : ℕ) (step past : Inside) (bind : Bind) (middle : Known)
     → LeadsInside nest scopes all group height step bind → slice_get all step.input ≡ Some middle → IsKnown nest scopes all middle
     → IsPast middle.steps.items step past → LeadsInside nest scopes all group height past bind
 leads_past nest scopes all group height step past bind middle first there known is_past =
@@ -257,7 +257,7 @@ leads_past nest scopes all group height step past bind middle first there known 
     past_first nest scopes all group height step past bind first (subst (IsKnown nest scopes all) same known)
     (subst (λ (one : Known). IsPast one.steps.items step past) same is_past)
 
-pub puts_inside : (nest : Nest) (scopes : List Scope) (all : List Known) (firsts : List ℕ) (group height : ℕ) (step : Inside) (bind : Bind)
+pub puts_inside : (nest : Nest) (scopes : List GroupScope) (all : List Known) (firsts : List ℕ) (group height : ℕ) (step : Inside) (bind : Bind)
     (kept old new : List End) → AreAlike scopes group firsts → (leads : LeadsInside nest scopes all group height step bind)
     → KeepsAll nest scopes leads.inner kept
     → ((f : End → List Spot) → ReadsAlike firsts f → SameKept (flat_map f new) (flat_map f (old ++ map (onward step.offset) kept)))
@@ -281,7 +281,7 @@ puts_inside nest scopes all firsts group height step bind kept old new alike lea
 
 -- ---- More known inputs
 
-step_more : (nest : Nest) (scopes : List Scope) (all behind : List Known) (group low high : ℕ) → low ≤ high → (step : Step) (bind : Bind)
+step_more : (nest : Nest) (scopes : List GroupScope) (all behind : List Known) (group low high : ℕ) → low ≤ high → (step : Step) (bind : Bind)
     → IsStep nest scopes all group low step bind → IsStep nest scopes (all ++ behind) group high step bind
 step_more nest scopes all behind group low high less (step_is.Component line) bind leads = leads
 step_more nest scopes all behind group low high less (step_is.Inside step) bind leads =
@@ -291,7 +291,7 @@ step_more nest scopes all behind group low high less (step_is.Inside step) bind 
       leads = λ base scope depth at of_group within. leads.leads base scope depth at of_group (omega (arith, less, within));
     }
 
-pub steps_more : (nest : Nest) (scopes : List Scope) (all behind : List Known) (group low high : ℕ) (steps : List Step) (binds : List Bind)
+pub steps_more : (nest : Nest) (scopes : List GroupScope) (all behind : List Known) (group low high : ℕ) (steps : List Step) (binds : List Bind)
     → low ≤ high → AreSteps nest scopes all group low steps binds → AreSteps nest scopes (all ++ behind) group high steps binds
 steps_more nest scopes all behind group low high [] [] less are = tt
 steps_more nest scopes all behind group low high [] (bind ∷ binds) less are = absurd are
@@ -300,7 +300,7 @@ steps_more nest scopes all behind group low high (step ∷ steps) (bind ∷ bind
     (step_more nest scopes all behind group low high less step bind are.0, steps_more nest scopes all behind group low high steps binds less are.1)
 
 -- One step more.
-pub steps_next : (nest : Nest) (scopes : List Scope) (all : List Known) (group low one high : ℕ) (steps steps' : List Step) (step : Step)
+pub steps_next : (nest : Nest) (scopes : List GroupScope) (all : List Known) (group low one high : ℕ) (steps steps' : List Step) (step : Step)
     (binds binds' : List Bind) (bind : Bind) → AreSteps nest scopes all group low steps binds → IsStep nest scopes all group one step bind
     → low ≤ high → one ≤ high → steps' ≡ steps ++ step ∷ [] → binds' ≡ binds ++ bind ∷ [] → AreSteps nest scopes all group high steps' binds'
 steps_next nest scopes all group low one high steps steps' step binds binds' bind are is less more made led =
@@ -312,7 +312,7 @@ steps_next nest scopes all group low one high steps steps' step binds binds' bin
     subst (λ those. AllZip R those binds') (sym made)
     (subst (λ those. AllZip R (steps ++ step ∷ []) those) (sym led) (zip_append R steps (step ∷ []) binds (bind ∷ []) front (last, tt)))
 
-pub known_more : (nest : Nest) (scopes : List Scope) (all all' : List Known) (one : Known) → AreKnown nest scopes all
+pub known_more : (nest : Nest) (scopes : List GroupScope) (all all' : List Known) (one : Known) → AreKnown nest scopes all
     → AreSteps nest scopes all one.group one.height one.steps.items (lines_of nest one.group one.port.now)
     → ((kept : List End) → one.ends ≡ Some kept → KeepsAll nest scopes one kept) → all' ≡ all ++ one ∷ [] → AreKnown nest scopes all'
 known_more nest scopes all all' one are steps ends more place known there =
@@ -345,7 +345,7 @@ pub lines_split : (binds : List Bind) (place : ℕ) → binds ≡ (take place bi
 lines_split binds place = sym (take-append-drop (place + 1) binds) ∙ ap (λ front. front ++ drop (place + 1) binds) (line_next binds place)
 
 -- There is one line for each step.
-pub lines_end : (nest : Nest) (scopes : List Scope) (all : List Known) (group height : ℕ) (steps : List Step) (binds : List Bind) (place : ℕ)
+pub lines_end : (nest : Nest) (scopes : List GroupScope) (all : List Known) (group height : ℕ) (steps : List Step) (binds : List Bind) (place : ℕ)
     → AreSteps nest scopes all group height steps binds → length steps ≤ place → take place binds ≡ binds
 lines_end nest scopes all group height [] [] zero are long = refl
 lines_end nest scopes all group height [] [] (suc place) are long = refl

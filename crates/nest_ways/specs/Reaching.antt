@@ -8,7 +8,7 @@ use Rattle.nest_text.specs.declared.nest.Bind.{Bind}
 use Rattle.nest_text.specs.declared.nest.Group.{Group}
 use Rattle.nest_text.specs.declared.nest.Nest.{Nest}
 use Rattle.nest_names.specs.Flattening.{binds_of, distinct, expand, inside, place_at, same_spot, spot_in}
-use Rattle.nest_names.specs.declared.scope.Scope.{Scope}
+use Rattle.nest_names.specs.declared.scope.GroupScope.{GroupScope}
 use Rattle.nest_names.specs.declared.scope.Spot.{Spot}
 use Rattle.nest_ways.specs.declared.ends.End.{End}
 use Rattle.nest_ways.specs.declared.scopes.Inner.{Inner}
@@ -45,19 +45,19 @@ abbrev pub lines_of : Nest → ℕ → List ℕ → List Bind
 lines_of nest group port = filter (λ bind. bytes_eq bind.port port) (ins_of nest (Some group))
 
 -- The inputs of components that lines of a scope reach, once for each path to them.
-abbrev pub ends_of : Nest → ℕ → Scope → List Bind → List Spot
+abbrev pub ends_of : Nest → ℕ → GroupScope → List Bind → List Spot
 ends_of nest depth scope binds = flat_map (all_ends nest depth) (map (spot_in scope) binds)
 
 -- ---- Inputs by numbers
 
 -- The input that an `End` stands for, counted from the scope at place `base`: the inner input of its line in the scope
 -- that is `end.scope` places later. None where there is no such scope or line.
-abbrev pub input_at : Nest → List Scope → ℕ → End → List Spot
+abbrev pub input_at : Nest → List GroupScope → ℕ → End → List Spot
 input_at nest scopes base end =
     option_to_list
     (option_and_then (λ scope. option_map (spot_in scope) (slice_get (ins_of nest scope.group) end.line)) (slice_get scopes (base + end.scope)))
 
-abbrev pub inputs_at : Nest → List Scope → ℕ → List End → List Spot
+abbrev pub inputs_at : Nest → List GroupScope → ℕ → List End → List Spot
 inputs_at nest scopes base ends = flat_map (input_at nest scopes base) ends
 
 -- The same `End`, counted from a scope that is `offset` places earlier.
@@ -77,15 +77,15 @@ PutsIf false end old new = new ≡ old
 
 -- For each scope of the group, the scope that is `offset` places later is equal to the one that is `first` places
 -- later.
-abbrev pub IsAlike : List Scope → ℕ → ℕ → ℕ → Type 0
+abbrev pub IsAlike : List GroupScope → ℕ → ℕ → ℕ → Type 0
 IsAlike scopes group offset first =
-    (base : ℕ) (scope : Scope) → slice_get scopes base ≡ Some scope → scope.group ≡ Some group
+    (base : ℕ) (scope : GroupScope) → slice_get scopes base ≡ Some scope → scope.group ≡ Some group
     → slice_get scopes (base + offset) ≡ slice_get scopes (base + first)
 
-abbrev pub AreAlike : List Scope → ℕ → List ℕ → Type 0
+abbrev pub AreAlike : List GroupScope → ℕ → List ℕ → Type 0
 AreAlike scopes group firsts = (offset first : ℕ) → slice_get firsts offset ≡ Some first → IsAlike scopes group offset first
 
-abbrev pub AreAllAlike : List Scope → List (List ℕ) → Type 0
+abbrev pub AreAllAlike : List GroupScope → List (List ℕ) → Type 0
 AreAllAlike scopes lists = (group : ℕ) (firsts : List ℕ) → slice_get lists group ≡ Some firsts → AreAlike scopes group firsts
 
 -- Equal scopes have the same input at the same line.
@@ -95,16 +95,16 @@ ReadsAlike firsts input =
     → input (record { scope = offset; line = line }) ≡ input (record { scope = first; line = line })
 
 -- The scope inside the instance `name` of the group is `offset` places after each scope of the group.
-abbrev pub LeadsTo : List Scope → ℕ → List ℕ → ℕ → ℕ → Type 0
+abbrev pub LeadsTo : List GroupScope → ℕ → List ℕ → ℕ → ℕ → Type 0
 LeadsTo scopes group name place offset =
-    (base : ℕ) (scope : Scope) → slice_get scopes base ≡ Some scope → scope.group ≡ Some group
+    (base : ℕ) (scope : GroupScope) → slice_get scopes base ≡ Some scope → scope.group ≡ Some group
     → slice_get scopes (base + offset) ≡ Some (inside scope name place)
 
 -- The scopes inside instances of the group are at the offsets in this list, after each scope of the group.
-abbrev pub AreInside : List Scope → ℕ → List Inner → Type 0
+abbrev pub AreInside : List GroupScope → ℕ → List Inner → Type 0
 AreInside scopes group inner = (k : ℕ) (one : Inner) → slice_get inner k ≡ Some one → LeadsTo scopes group one.name.now one.place one.offset
 
-abbrev pub AreAllInside : List Scope → List (List Inner) → Type 0
+abbrev pub AreAllInside : List GroupScope → List (List Inner) → Type 0
 AreAllInside scopes lists = (group : ℕ) (inner : List Inner) → slice_get lists group ≡ Some inner → AreInside scopes group inner
 
 -- ---- Steps
@@ -117,8 +117,8 @@ pub record LeadsHere (nest : Nest) (group line : ℕ) (bind : Bind) : Type 0 whe
 
 -- Over `depth` levels, the line reaches from this scope what a known input reaches from the scope that is `offset`
 -- places after the base. At least as many levels are left as the known input requires.
-pub record LeadsAlike (nest : Nest) (scopes : List Scope) (base offset depth : ℕ) (scope : Scope) (bind : Bind) (inner : Known) : Type 0 where
-  pub onward : Scope
+pub record LeadsAlike (nest : Nest) (scopes : List GroupScope) (base offset depth : ℕ) (scope : GroupScope) (bind : Bind) (inner : Known) : Type 0 where
+  pub onward : GroupScope
   pub there : slice_get scopes (base + offset) ≡ Some onward
   pub of_group : onward.group ≡ Some inner.group
   pub left : ℕ
@@ -127,10 +127,10 @@ pub record LeadsAlike (nest : Nest) (scopes : List Scope) (base offset depth : �
 
 -- Over at most `height` levels, the line of the group reaches what a known input of an inner group reaches, and so in
 -- each scope of the group.
-pub record LeadsInside (nest : Nest) (scopes : List Scope) (all : List Known) (group height : ℕ) (step : Inside) (bind : Bind) : Type 0 where
+pub record LeadsInside (nest : Nest) (scopes : List GroupScope) (all : List Known) (group height : ℕ) (step : Inside) (bind : Bind) : Type 0 where
   pub inner : Known
   pub there : slice_get all step.input ≡ Some inner
-  pub leads : (base : ℕ) (scope : Scope) (depth : ℕ) → slice_get scopes base ≡ Some scope → scope.group ≡ Some group → height ≤ depth
+  pub leads : (base : ℕ) (scope : GroupScope) (depth : ℕ) → slice_get scopes base ≡ Some scope → scope.group ≡ Some group → height ≤ depth
       → LeadsAlike nest scopes base step.offset depth scope bind inner
 
 -- The step itself; or, where the input at its end has only one step and this leads into a group, the two steps joined.
@@ -140,32 +140,32 @@ IsPast steps step past =
     ⊎ ((onward : Inside) × (steps ≡ step_is.Inside onward ∷ []) × (past ≡ record { offset = step.offset + onward.offset; input = onward.input }))
 
 -- The step leads to what the line of the group reaches.
-abbrev pub IsStep : Nest → List Scope → List Known → ℕ → ℕ → Step → Bind → Type 0
+abbrev pub IsStep : Nest → List GroupScope → List Known → ℕ → ℕ → Step → Bind → Type 0
 IsStep nest scopes all group height (step_is.Component line) bind = LeadsHere nest group line bind
 IsStep nest scopes all group height (step_is.Inside step) bind = LeadsInside nest scopes all group height step bind
 
-abbrev pub AreSteps : Nest → List Scope → List Known → ℕ → ℕ → List Step → List Bind → Type 0
+abbrev pub AreSteps : Nest → List GroupScope → List Known → ℕ → ℕ → List Step → List Bind → Type 0
 AreSteps nest scopes all group height steps binds = AllZip (IsStep nest scopes all group height) steps binds
 
 -- ---- What is known
 
 -- In each scope of the group, the inputs were added that these lines reach over at most `height` levels.
-abbrev pub Puts : Nest → List Scope → ℕ → ℕ → List End → List End → List Bind → Type 0
+abbrev pub Puts : Nest → List GroupScope → ℕ → ℕ → List End → List End → List Bind → Type 0
 Puts nest scopes group height old new binds =
-    (base : ℕ) (scope : Scope) (depth : ℕ) → slice_get scopes base ≡ Some scope → scope.group ≡ Some group → height ≤ depth
+    (base : ℕ) (scope : GroupScope) (depth : ℕ) → slice_get scopes base ≡ Some scope → scope.group ≡ Some group → height ≤ depth
     → SameKept (inputs_at nest scopes base new) (inputs_at nest scopes base old ++ ends_of nest depth scope binds)
 
 -- The inputs that are kept for an input of a group are those that it reaches, in each scope of the group.
-abbrev pub KeepsAll : Nest → List Scope → Known → List End → Type 0
+abbrev pub KeepsAll : Nest → List GroupScope → Known → List End → Type 0
 KeepsAll nest scopes known ends = Puts nest scopes known.group known.height [] ends (lines_of nest known.group known.port.now)
 
 -- A known input of a group: its steps lead to what its lines reach, and the inputs of components that are kept for it,
 -- if any, are all that it reaches.
-pub record IsKnown (nest : Nest) (scopes : List Scope) (all : List Known) (known : Known) : Type 0 where
+pub record IsKnown (nest : Nest) (scopes : List GroupScope) (all : List Known) (known : Known) : Type 0 where
   pub steps : AreSteps nest scopes all known.group known.height known.steps.items (lines_of nest known.group known.port.now)
   pub ends : (kept : List End) → known.ends ≡ Some kept → KeepsAll nest scopes known kept
 
-abbrev pub AreKnown : Nest → List Scope → List Known → Type 0
+abbrev pub AreKnown : Nest → List GroupScope → List Known → Type 0
 AreKnown nest scopes all = (place : ℕ) (known : Known) → slice_get all place ≡ Some known → IsKnown nest scopes all known
 
 -- The known input at the place is the one with this name, of this group.

@@ -4,7 +4,7 @@ use Rattle.nest_text.specs.declared.nest.Bind.{Bind}
 use Rattle.nest_text.specs.declared.nest.Nest.{Nest}
 use Rattle.nest_names.specs.Flattening.{distinct, levels, reach}
 use Rattle.nest_names.specs.Tables.{inside_of}
-use Rattle.nest_names.specs.declared.scope.Scope.{Scope}
+use Rattle.nest_names.specs.declared.scope.GroupScope.{GroupScope}
 use Rattle.nest_names.specs.declared.scope.Spot.{Spot}
 use Rattle.nest_ways.specs.Reaching.{AreKnown, FindsKnown, IsIn, LeadsInside, PutsUpTo, ends_of, input_at, inputs_at, lines_of}
 use Rattle.nest_ways.specs.Sets.{KeepsByNumbers, HasAt, HasNumberAt}
@@ -30,13 +30,13 @@ pub record AreWays (nest : Nest) (ways : Ways) : Type 0 where
 -- ---- The places of a walk
 
 -- A scope of the group is at the place.
-pub record IsScopeAt (scopes : List Scope) (place group : ℕ) : Type 0 where
-  pub scope : Scope
+pub record IsScopeAt (scopes : List GroupScope) (place group : ℕ) : Type 0 where
+  pub scope : GroupScope
   pub there : slice_get scopes place ≡ Some scope
   pub of_group : scope.group ≡ Some group
 
 -- A scope of the input's group is `inlet.scope` places after the base.
-abbrev pub IsInletAt : List Scope → List Known → ℕ → Inlet → Type 0
+abbrev pub IsInletAt : List GroupScope → List Known → ℕ → Inlet → Type 0
 IsInletAt scopes all base inlet = (known : Known) → slice_get all inlet.input ≡ Some known → IsScopeAt scopes (base + inlet.scope) known.group
 
 -- ---- Numbers of scopes
@@ -48,15 +48,15 @@ IsNumbered group_scopes group number place = slice_get (inside_of (map (λ one. 
 -- ---- Finished inputs
 
 -- All inputs of components that a known input of a group reaches, over all its levels, are in the list.
-abbrev pub IsDone : Nest → List Scope → ℕ → List End → ℕ → Known → Type 0
+abbrev pub IsDone : Nest → List GroupScope → ℕ → List End → ℕ → Known → Type 0
 IsDone nest scopes base ends offset known =
-    (scope : Scope) (depth : ℕ) (one : Spot) → slice_get scopes (base + offset) ≡ Some scope → scope.group ≡ Some known.group → known.height ≤ depth
+    (scope : GroupScope) (depth : ℕ) (one : Spot) → slice_get scopes (base + offset) ≡ Some scope → scope.group ≡ Some known.group → known.height ≤ depth
     → IsIn one (ends_of nest depth scope (lines_of nest known.group known.port.now)) → IsIn one (inputs_at nest scopes base ends)
 
 -- The records of a walk are right. If the set of an input has the number of a scope of its group, all that the input
 -- reaches there was added. If the set of a scope has a number, the input with this number was added, counted from this
 -- scope.
-pub record AreDone (nest : Nest) (scopes : List Scope) (group_scopes : GroupScopes) (kept_sets : KeptSets) (all : List Known) (base : ℕ) (walk : Walk) : Type 0 where
+pub record AreDone (nest : Nest) (scopes : List GroupScope) (group_scopes : GroupScopes) (kept_sets : KeptSets) (all : List Known) (base : ℕ) (walk : Walk) : Type 0 where
   pub inputs : (input number offset : ℕ) (known : Known) → HasAt walk.done.sets.items input number → slice_get all input ≡ Some known
       → IsNumbered group_scopes known.group number (base + offset) → IsDone nest scopes base walk.ends offset known
   pub ends : (offset number : ℕ) (end : End) (one : Spot) → HasNumberAt walk.put.sets.items offset number
@@ -64,7 +64,7 @@ pub record AreDone (nest : Nest) (scopes : List Scope) (group_scopes : GroupScop
       → IsIn one (inputs_at nest scopes base walk.ends)
 
 -- A walk from a scope of the group, which uses the known inputs and has right records.
-pub record IsWalk (nest : Nest) (scopes : List Scope) (group_scopes : GroupScopes) (kept_sets : KeptSets) (all : List Known) (base group : ℕ) (walk : Walk) : Type 0 where
+pub record IsWalk (nest : Nest) (scopes : List GroupScope) (group_scopes : GroupScopes) (kept_sets : KeptSets) (all : List Known) (base group : ℕ) (walk : Walk) : Type 0 where
   pub known : AreKnown nest scopes all
   pub kept : KeepsByNumbers kept_sets all
   pub start : IsScopeAt scopes base group
@@ -74,14 +74,14 @@ pub record IsWalk (nest : Nest) (scopes : List Scope) (group_scopes : GroupScope
 
 -- From the scope of an input, what its lines reach over all their levels was added to the list. If `whole` is true, all
 -- of it was added and the records are right; else a part of it may be missing.
-pub record WalksOn (nest : Nest) (scopes : List Scope) (group_scopes : GroupScopes) (kept_sets : KeptSets) (all : List Known) (base offset : ℕ) (known : Known)
+pub record WalksOn (nest : Nest) (scopes : List GroupScope) (group_scopes : GroupScopes) (kept_sets : KeptSets) (all : List Known) (base offset : ℕ) (known : Known)
     (old new : Walk) (whole : Bool) (binds : List Bind) : Type 0 where
-  pub puts : (scope : Scope) (depth : ℕ) → slice_get scopes (base + offset) ≡ Some scope → scope.group ≡ Some known.group → known.height ≤ depth
+  pub puts : (scope : GroupScope) (depth : ℕ) → slice_get scopes (base + offset) ≡ Some scope → scope.group ≡ Some known.group → known.height ≤ depth
       → PutsUpTo whole (inputs_at nest scopes base new.ends) (inputs_at nest scopes base old.ends ++ ends_of nest depth scope binds)
   pub done : IsTrue whole → AreDone nest scopes group_scopes kept_sets all base new
 
 -- The same for all lines of a known input.
-abbrev pub WalksWhole : Nest → List Scope → GroupScopes → KeptSets → List Known → ℕ → Inlet → Walk → Walk → Bool → Type 0
+abbrev pub WalksWhole : Nest → List GroupScope → GroupScopes → KeptSets → List Known → ℕ → Inlet → Walk → Walk → Bool → Type 0
 WalksWhole nest scopes group_scopes kept_sets all base inlet old new whole =
     (known : Known) → slice_get all inlet.input ≡ Some known
     → WalksOn nest scopes group_scopes kept_sets all base inlet.scope known old new whole (lines_of nest known.group known.port.now)
@@ -137,7 +137,7 @@ pub record IsFirst (all : List Known) (group : ℕ) (port : List ℕ) (inlet : I
   pub here : inlet.scope ≡ 0
 
 -- The inputs of components that an input of a group reaches in a scope, each once.
-abbrev pub reached_inside : Nest → Scope → ℕ → List ℕ → List Spot
+abbrev pub reached_inside : Nest → GroupScope → ℕ → List ℕ → List Spot
 reached_inside nest scope group port = distinct [] (ends_of nest (levels - 1) scope (lines_of nest group port))
 
 -- The result has all that is reached, or states that this is more than `most`. `Unknown` states nothing: nothing was

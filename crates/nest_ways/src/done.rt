@@ -1,11 +1,11 @@
 //! In which scopes of its group an input is finished: a set of scopes for each input.
-ghost use Rattle.std.specs.Prelude.{◌≡◌, ◌⊎◌, ℕ, Some, IfOk, IsTrue};
+ghost use Rattle.std.specs.Prelude.{◌≡◌, ◌↔◌, ◌⊎◌, ℕ, Some, IfOk, IsTrue};
 ghost use Rattle.nest_ways.specs.Sets.{AreEmpty, HasAt};
 ghost use Rattle.nest_ways.specs.Walking.{IsNumbered};
 
 use crate::sets::{SetWord, WORD_BITS};
 use fixed_words::NoMemory;
-use nest_names::{Scope, at};
+use nest_names::{GroupScope, at};
 use std::alloc::Global;
 
 /// The most scopes of a group whose numbers are recorded. No group has more, since each of its scopes has a component
@@ -33,7 +33,7 @@ impl DoneInputs {
 
     /// Whether an input is finished in the scope of its group with this number.
     pub(crate) fn has(&self, input: usize, number: u32) -> bool
-        ensures { IsTrue result → HasAt self.now.sets.items input number }
+        ensures { IsTrue result ↔ HasAt self.now.sets.items input number }
     {
         match at(self.sets.as_slice(), input) {
             Some(set) => set.has(number),
@@ -82,7 +82,7 @@ impl GroupScopes {
     /// Returns the numbers of scopes, for this many groups.
     pub(crate) fn new(
         alloc: Global,
-        scopes: &[Scope],
+        scopes: &[GroupScope],
         groups: usize,
     ) -> Result<GroupScopes, NoMemory> {
         let mut places = Vec::new(alloc);

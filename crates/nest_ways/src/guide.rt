@@ -2,7 +2,7 @@
 //! results.
 use crate::ends::End;
 use fixed_words::{List, NoMemory};
-use nest_names::{NestNames, Places, Scope, copied_scope, inside, note, noted};
+use nest_names::{GroupScope, NestNames, Places, copied_scope, inside, note, noted};
 use nest_text::Bind;
 use std::alloc::Global;
 use std::collections::BTreeMap;
@@ -136,7 +136,7 @@ impl<'n> Guide<'n> {
         &mut self,
         alloc: Global,
         names: &NestNames<'n>,
-        scopes: &[Scope],
+        scopes: &[GroupScope],
     ) -> Result<(), NoMemory> {
         let mut lines: usize = 0;
         for scope in scopes {
@@ -172,7 +172,7 @@ impl<'n> Guide<'n> {
     }
 
     /// Records for each scope the last one before it that is equal.
-    fn note_twins(&mut self, alloc: Global, scopes: &[Scope]) -> Result<(), NoMemory> {
+    fn note_twins(&mut self, alloc: Global, scopes: &[GroupScope]) -> Result<(), NoMemory> {
         let mut last = BTreeMap::new(alloc);
         for (place, scope) in scopes.iter().enumerate() {
             let one = (scope.prefix.as_slice(), scope.group.unwrap_or(usize::MAX));
@@ -297,9 +297,9 @@ fn put_scopes<'n>(
     alloc: Global,
     names: &NestNames<'n>,
     depth: usize,
-    scope: &Scope,
+    scope: &GroupScope,
     guide: &mut Guide<'n>,
-    scopes: &mut List<Scope>,
+    scopes: &mut List<GroupScope>,
 ) -> Result<(), NoMemory> {
     let own = scopes.len();
     guide.note_scope(scope.group, own);
@@ -328,8 +328,8 @@ pub(crate) fn guided_scopes<'n>(
     alloc: Global,
     names: &NestNames<'n>,
     levels: usize,
-    top: &Scope,
-) -> Result<(List<Scope>, Guide<'n>), NoMemory> {
+    top: &GroupScope,
+) -> Result<(List<GroupScope>, Guide<'n>), NoMemory> {
     let mut guide = Guide::new(alloc, names)?;
     let mut scopes = List::new(alloc);
     put_scopes(alloc, names, levels, top, &mut guide, &mut scopes)?;

@@ -6,12 +6,12 @@
 ghost use Rattle.std.specs.Prelude.{◌≡◌, ◌++◌, ◌+◌, ℕ, List, Some, IfOk, IsTrue, map, slice_get};
 ghost use Rattle.std.specs.Option.{option_map};
 ghost use Rattle.nest_names.specs.Flattening.{inside};
-ghost use Rattle.nest_names.specs.declared.scope.Scope.{Scope as Scopes};
+ghost use Rattle.nest_names.specs.declared.scope.GroupScope.{GroupScope as Scopes};
 ghost use Rattle.nest_ways.specs.Reaching.{AreAlike, AreAllAlike, AreAllInside, AreInside, IsAlike, LeadsTo};
 
 use crate::guide::Guide;
 use fixed_words::{List, NoMemory};
-use nest_names::{NestNames, Scope, at, same_group, same_scope};
+use nest_names::{GroupScope, NestNames, at, same_group, same_scope};
 use std::alloc::Global;
 use std::marker::Model;
 use unit_tree::{Instance, Name};
@@ -19,7 +19,7 @@ use unit_tree::{Instance, Name};
 /// All scopes of a nest, an instance before those inside it. Contracts see the list.
 #[derive(Drop)]
 pub struct AllScopes<'n> {
-    scopes: List<Scope>,
+    scopes: List<GroupScope>,
     /// For each group and each offset, the offset of the first scope that is equal.
     firsts: Vec<Vec<u32>>,
     /// For each group, the offsets of the scopes inside its instances.
@@ -39,10 +39,10 @@ pub struct Inner<'n> {
 impl<'n> Model for AllScopes<'n> {
     ghost use Rattle.std.specs.Prelude.{List, map};
     ghost use Rattle.std.specs.Coded.{codes};
-    ghost use Rattle.nest_names.specs.declared.scope.Scope.{Scope};
+    ghost use Rattle.nest_names.specs.declared.scope.GroupScope.{GroupScope};
     ghost use Rattle.nest_ways.specs.Reaching.{AreAllAlike, AreAllInside};
 
-    ghost Value = { List Scope };
+    ghost Value = { List GroupScope };
 
     ghost coded = { Prim.hlevel codes };
 
@@ -53,7 +53,7 @@ impl<'n> Model for AllScopes<'n> {
 }
 
 /// Whether the scopes at two offsets after a scope are equal.
-fn are_same_from(scopes: &[Scope], base: usize, offset: usize, first: usize) -> bool
+fn are_same_from(scopes: &[GroupScope], base: usize, offset: usize, first: usize) -> bool
     ensures { IsTrue result → slice_get scopes.now (base + offset) ≡ slice_get scopes.now (base + first) }
 {
     let Some(one) = base.checked_add(offset) else {
@@ -69,7 +69,7 @@ fn are_same_from(scopes: &[Scope], base: usize, offset: usize, first: usize) -> 
 }
 
 /// Whether the scopes at two offsets are equal after each scope of the group.
-fn are_alike(scopes: &[Scope], group: usize, offset: usize, first: usize) -> bool
+fn are_alike(scopes: &[GroupScope], group: usize, offset: usize, first: usize) -> bool
     ensures { IsTrue result → IsAlike scopes.now group offset first }
 {
     for (base, scope) in scopes.iter().enumerate() {
@@ -84,7 +84,7 @@ fn are_alike(scopes: &[Scope], group: usize, offset: usize, first: usize) -> boo
 }
 
 /// The offset of the first scope that is equal to the one at an offset.
-fn first_alike(scopes: &[Scope], guide: &Guide<'_>, group: usize, offset: u32) -> u32
+fn first_alike(scopes: &[GroupScope], guide: &Guide<'_>, group: usize, offset: u32) -> u32
     ensures { IsAlike scopes.now group offset result }
 {
     let place = offset as usize;
@@ -101,7 +101,7 @@ fn first_alike(scopes: &[Scope], guide: &Guide<'_>, group: usize, offset: u32) -
 /// For each offset in a scope of a group, the offset of the first scope that is equal.
 fn firsts_in(
     alloc: Global,
-    scopes: &[Scope],
+    scopes: &[GroupScope],
     guide: &Guide<'_>,
     group: usize,
 ) -> Result<Vec<u32>, NoMemory>
@@ -118,7 +118,7 @@ fn firsts_in(
 /// For each group and each offset, the offset of the first scope that is equal.
 fn firsts_of_groups(
     alloc: Global,
-    scopes: &[Scope],
+    scopes: &[GroupScope],
     guide: &Guide<'_>,
     groups: usize,
 ) -> Result<Vec<Vec<u32>>, NoMemory>
@@ -140,7 +140,7 @@ fn behind<'b>(whole: &'b [u8], front: &[u8]) -> Option<&'b [u8]>
 }
 
 /// Whether a scope is the one inside an instance of another.
-fn is_inside(inner: &Scope, scope: &Scope, name: &Name, place: usize) -> bool
+fn is_inside(inner: &GroupScope, scope: &GroupScope, name: &Name, place: usize) -> bool
     ensures { IsTrue result → inner.now ≡ inside scope.now name.now place }
 {
     let Some(rest) = behind(inner.prefix.as_slice(), scope.prefix.as_slice()) else {
@@ -157,10 +157,10 @@ fn is_inside(inner: &Scope, scope: &Scope, name: &Name, place: usize) -> bool
 
 /// Whether the scope inside an instance is at an offset after a scope.
 fn leads_from(
-    scopes: &[Scope],
+    scopes: &[GroupScope],
     base: usize,
     offset: usize,
-    scope: &Scope,
+    scope: &GroupScope,
     name: &Name,
     place: usize,
 ) -> bool
@@ -176,7 +176,7 @@ fn leads_from(
 }
 
 /// Whether the scope inside an instance of a group is at an offset after each scope of the group.
-fn leads(scopes: &[Scope], group: usize, name: &Name, place: usize, offset: usize) -> bool
+fn leads(scopes: &[GroupScope], group: usize, name: &Name, place: usize, offset: usize) -> bool
     ensures { IsTrue result → LeadsTo scopes.now group name.now place offset }
 {
     for (base, scope) in scopes.iter().enumerate() {
@@ -193,7 +193,7 @@ fn leads(scopes: &[Scope], group: usize, name: &Name, place: usize, offset: usiz
 /// The offset of the scope inside an instance of a group. None for a component, which has no scope.
 fn inner_of<'n>(
     names: &NestNames<'n>,
-    scopes: &[Scope],
+    scopes: &[GroupScope],
     guide: &Guide<'_>,
     group: usize,
     instance: &'n Instance,
@@ -217,7 +217,7 @@ fn inner_of<'n>(
 fn inner_in<'n>(
     alloc: Global,
     names: &NestNames<'n>,
-    scopes: &[Scope],
+    scopes: &[GroupScope],
     guide: &Guide<'_>,
     group: usize,
 ) -> Result<Vec<Inner<'n>>, NoMemory>
@@ -236,7 +236,7 @@ fn inner_in<'n>(
 fn inner_of_groups<'n>(
     alloc: Global,
     names: &NestNames<'n>,
-    scopes: &[Scope],
+    scopes: &[GroupScope],
     guide: &Guide<'_>,
 ) -> Result<Vec<Vec<Inner<'n>>>, NoMemory>
     ensures { IfOk result (λ made. AreAllInside scopes.now (map (λ one. one.items) made.items)) }
@@ -272,7 +272,7 @@ impl<'n> AllScopes<'n> {
     pub(crate) fn new(
         alloc: Global,
         names: &NestNames<'n>,
-        scopes: List<Scope>,
+        scopes: List<GroupScope>,
         guide: &Guide<'_>,
     ) -> Result<AllScopes<'n>, NoMemory>
         ensures { IfOk result (λ all. all ≡ scopes) }
@@ -286,7 +286,7 @@ impl<'n> AllScopes<'n> {
         })
     }
 
-    pub(crate) fn as_slice(&self) -> &[Scope]
+    pub(crate) fn as_slice(&self) -> &[GroupScope]
         ensures { result.now ≡ self.now }
     {
         self.scopes.as_slice()

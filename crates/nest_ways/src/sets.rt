@@ -1,5 +1,5 @@
 //! Sets of numbers, as words of 64 bits.
-ghost use Rattle.std.specs.Prelude.{◌≡◌, ◌⊎◌, ◌<◌, ◌≤◌, ℕ, length, Some, IfOk, IsTrue, OnOk};
+ghost use Rattle.std.specs.Prelude.{◌≡◌, ◌↔◌, ◌⊎◌, ◌<◌, ◌≤◌, ℕ, length, Some, IfOk, IsTrue, OnOk};
 ghost use Rattle.nest_ways.specs.Sets.{HasAt, HasNumber, HasSame, IsInWord};
 ghost use Rattle.nest_ways.specs.declared.sets.NumberSet.{NumberSet as NumberSets};
 
@@ -35,7 +35,7 @@ impl SetWord {
 
     /// Whether a number is in the set.
     pub(crate) fn has(self, number: u32) -> bool
-        ensures { IsTrue result → IsInWord self number }
+        ensures { IsTrue result ↔ IsInWord self number }
     {
         if number >= WORD_BITS {
             return false;
@@ -58,14 +58,14 @@ impl SetWord {
 
     /// Whether all its numbers are in another word.
     fn is_within(self, other: SetWord) -> bool
-        ensures { IsTrue result → (number : ℕ) → IsInWord self number → IsInWord other number }
+        ensures { IsTrue result ↔ ((number : ℕ) → IsInWord self number → IsInWord other number) }
     {
         self.bits | other.bits == other.bits
     }
 
     /// The numbers of both.
     fn joined(self, other: SetWord) -> SetWord
-        ensures { (number : ℕ) → IsInWord result number → IsInWord self number ⊎ IsInWord other number }
+        ensures { (number : ℕ) → IsInWord result number ↔ (IsInWord self number ⊎ IsInWord other number) }
     {
         let bits = self.bits | other.bits;
         SetWord { bits }
@@ -91,7 +91,7 @@ pub struct NumberSet {
 
 /// The word at a place, or an empty one.
 fn word_at(words: &[SetWord], place: usize) -> SetWord
-    ensures { (bit : ℕ) → IsInWord result bit → HasAt words.now place bit }
+    ensures { (bit : ℕ) → IsInWord result bit ↔ HasAt words.now place bit }
 {
     match at(words, place) {
         Some(word) => *word,
@@ -182,7 +182,8 @@ impl NumberSet {
         Ok(Some(NumberSet { start, words }))
     }
 
-    /// Whether all its numbers are in another set.
+    /// Whether all its numbers are in another set. It may also answer no where they are, if its words begin before those of the
+    /// other set; then what is kept is added again.
     pub(crate) fn is_within(&self, other: &NumberSet) -> bool
         ensures { IsTrue result → (number : ℕ) → HasNumber self.now number → HasNumber other.now number }
     {

@@ -1,7 +1,7 @@
 //! The steps of inputs of groups, by numbers, so that each name is looked up once.
 ghost use Rattle.std.specs.Prelude.{◌≡◌, ◌∷◌, [], ℕ, List, None, Some, IfOk, slice_get};
 ghost use Rattle.nest_names.specs.Flattening.{place_at};
-ghost use Rattle.nest_names.specs.declared.scope.Scope.{Scope};
+ghost use Rattle.nest_names.specs.declared.scope.GroupScope.{GroupScope};
 ghost use Rattle.nest_ways.specs.Reaching.{AreKnown, AreSteps, FindsKnown, IsPast, IsStep, ins_of, lines_of};
 ghost use Rattle.nest_ways.specs.declared.steps.Known.{Known as Knowns};
 ghost use Rattle.nest_ways.specs.declared.steps.Step.TheVariants as step_is;
@@ -107,7 +107,7 @@ fn component_step<'n>(
 ) -> Option<Descent>
     requires line { slice_get (ins_of names.now (Some group)) line ≡ Some bind.now }
     requires component { place_at names.now (Some group) bind.now.inner.instance ≡ None }
-    ensures { (made : _) (scopes : List Scope) (known : List Knowns) → result ≡ Some made
+    ensures { (made : _) (scopes : List GroupScope) (known : List Knowns) → result ≡ Some made
         → IsStep names.now scopes known group made.height made.step bind.now }
 {
     let line = same_line(guide, group, names.ins(group), bind, line);

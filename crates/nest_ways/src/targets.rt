@@ -12,7 +12,7 @@ use crate::steps::find;
 use crate::walk::{Inlet, Start, Walk, walk_inlet};
 use fixed_words::{List, NoMemory};
 use nest_names::{
-    LEVELS, NestNames, Scope, Spot, at, distinct, inside, put_bind, reach, same_scope, spot_of,
+    GroupScope, LEVELS, NestNames, Spot, at, distinct, inside, put_bind, reach, same_scope, spot_of,
 };
 use nest_text::Bind;
 use std::alloc::Global;
@@ -32,7 +32,7 @@ fn ins_of<'n>(names: &NestNames<'n>, group: Option<usize>) -> &'n [Bind]
 fn put_input(
     alloc: Global,
     names: &NestNames<'_>,
-    scopes: &[Scope],
+    scopes: &[GroupScope],
     base: usize,
     end: End,
     spots: &mut List<Spot>,
@@ -54,7 +54,7 @@ fn put_input(
 fn inputs(
     alloc: Global,
     names: &NestNames<'_>,
-    scopes: &[Scope],
+    scopes: &[GroupScope],
     base: usize,
     ends: &[End],
 ) -> Result<Option<List<Spot>>, NoMemory>
@@ -70,7 +70,7 @@ fn inputs(
 }
 
 /// The place of a scope.
-fn place_of(scopes: &[Scope], scope: &Scope) -> Option<usize>
+fn place_of(scopes: &[GroupScope], scope: &GroupScope) -> Option<usize>
     ensures { (place : ℕ) → result ≡ Some place → slice_get scopes.now place ≡ Some scope.now }
 {
     for (place, other) in scopes.iter().enumerate() {
@@ -127,7 +127,7 @@ fn walk_from<'n>(
     ways: &Ways<'n>,
     guide: &mut Guide<'n>,
     group: usize,
-    scope: &Scope,
+    scope: &GroupScope,
     port: &[u8],
     most: usize,
 ) -> Result<Reach, NoMemory>
@@ -166,7 +166,7 @@ pub fn reached<'n>(
     names: &NestNames<'n>,
     ways: &Ways<'n>,
     guide: &mut Guide<'n>,
-    scope: &Scope,
+    scope: &GroupScope,
     to: &'n PortName,
     most: usize,
 ) -> Result<Option<List<Spot>>, NoMemory>

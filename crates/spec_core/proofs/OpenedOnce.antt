@@ -7,7 +7,7 @@ use Rattle.std.specs.Prelude.{replicate, slice_get}
 use Rattle.guess_board.specs.Events.{opened}
 use Rattle.guess_board.specs.Journals.{replay_of}
 use Rattle.guess_board.specs.Lanes.{IsLane, LaneState, TicketState}
-use Rattle.guess_board.specs.declared.guesses.Policy.TheVariants.{Hold}
+use Rattle.guess_board.specs.declared.guesses.Policy.{Policy}
 use Rattle.guess_board.proofs.JournalLaws.{booked_new}
 use Rattle.list_laws.proofs.Lists.{each_so}
 use Rattle.list_laws.proofs.Members.{at_place}
@@ -97,14 +97,10 @@ first_lanes run (suc count) images within =
           (opened_lane member.0.component has.image count has.is_image)),
     )
 
--- The world is opened as for a replay.
-abbrev pub IsOpenedFor : Planned → ℕ → WorldState → Type 0
-IsOpenedFor plan workers world = IsOpenedWorld plan workers 4 Hold world
-
 -- There is such a world.
-pub record HasOpened (plan : Planned) (workers : ℕ) : Type 0 where
+pub record HasOpened (plan : Planned) (window : ℕ) (policy : Policy) (workers : ℕ) : Type 0 where
   pub world : WorldState
-  pub is_opened : IsOpenedFor plan workers world
+  pub is_opened : IsOpenedWorld plan workers window policy world
   pub is_world : IsWorld world
 
 first_words : (plan : Planned) → CanReplay plan → HasWords plan.run (first_position plan.run)
@@ -113,8 +109,8 @@ first_words plan can = (positions_keep plan.run can.members).first
 pub first_bounds : (plan : Planned) → IsInBounds plan.run (first_position plan.run)
 first_bounds plan = record { stop = omega arith; zeros = omega arith }
 
-pub has_opened : (plan : Planned) (workers : ℕ) → CanReplay plan → HasOpened plan workers
-has_opened plan workers can =
+pub has_opened : (plan : Planned) (window : ℕ) (policy : Policy) (workers : ℕ) → CanReplay plan → window ≤ 16 → HasOpened plan window policy workers
+has_opened plan window policy workers can few =
     let run = plan.run in
     let at = first_position run in
     let words = first_words plan can in
@@ -127,8 +123,8 @@ has_opened plan workers can =
     (omega (arith, some)) assigned.is_assignment (λ known. refl) in
     let lanes = first_lanes run (length run.members) can.images (omega arith) in
     let world : WorldState =
-    record { run = r; window = cut_window run 4; policy = Hold; lanes = lanes.0; hands = replicate workers [] } in
-    let is_opened : IsOpenedFor plan workers world = record {
+    record { run = r; window = cut_window run window; policy = policy; lanes = lanes.0; hands = replicate workers [] } in
+    let is_opened : IsOpenedWorld plan workers window policy world = record {
       run = record { is = refl; before = λ known. refl };
       is_window = refl;
       is_policy = refl;
@@ -138,7 +134,7 @@ has_opened plan workers can =
     record {
       world = world;
       is_opened = is_opened;
-      is_world = opened_is_world plan workers 4 Hold world is_opened stands lanes.1.are_lanes (omega arith);
+      is_world = opened_is_world plan workers window policy world is_opened stands lanes.1.are_lanes few;
     }
 
 -- ---- There is only one
@@ -172,15 +168,16 @@ lanes_once run lanes others are are_too =
     are.each k lane at ∙ ap (λ one. opened one k) image ∙ sym (are_too.each k other at_too))
 
 -- Two opened worlds of a plan have the same stand, the same hands and the same phase.
-module _ (plan : Planned) (workers : ℕ) (can : CanReplay plan) (one other : WorldState) (is : IsOpenedFor plan workers one)
-    (is_other : IsOpenedFor plan workers other) (is_world : IsWorld one) (is_world_too : IsWorld other) where
+module _ (plan : Planned) (window : ℕ) (policy : Policy) (workers : ℕ) (can : CanReplay plan) (one other : WorldState)
+    (is : IsOpenedWorld plan workers window policy one) (is_other : IsOpenedWorld plan workers window policy other) (is_world : IsWorld one)
+    (is_world_too : IsWorld other) where
   -- Where a run of the plan starts.
   abbrev at : Position
   at = first_position plan.run
 
-  is_stand_of : (world : WorldState) → IsOpenedFor plan workers world → IsWorld world → IsStand plan.run world.run.stand
+  is_stand_of : (world : WorldState) → IsOpenedWorld plan workers window policy world → IsWorld world → IsStand plan.run world.run.stand
   is_stand_of world opens keeps =
-      subst (λ (p : Planned). IsStand p.run world.run.stand) (planned plan workers 4 Hold world opens) keeps.stands.is_stand
+      subst (λ (p : Planned). IsStand p.run world.run.stand) (planned plan workers window policy world opens) keeps.stands.is_stand
 
   stand_once : one.run.stand ≡ other.run.stand
   stand_once =
@@ -199,11 +196,11 @@ module _ (plan : Planned) (workers : ℕ) (can : CanReplay plan) (one other : Wo
 
   other_is : other ≡ opened_as other.run.stand other.run.before
   other_is =
-      let window = is_other.is_window ∙ sym is.is_window in
-      let policy = is_other.is_policy ∙ sym is.is_policy in
+      let same_window = is_other.is_window ∙ sym is.is_window in
+      let same_policy = is_other.is_policy ∙ sym is.is_policy in
       let lanes = lanes_once plan.run other.lanes one.lanes is_other.lanes is.lanes in
       let hands = is_other.hands ∙ sym is.hands in
-      λ i. record { run = is_other.run.is i; window = window i; policy = policy i; lanes = lanes i; hands = hands i }
+      λ i. record { run = is_other.run.is i; window = same_window i; policy = same_policy i; lanes = lanes i; hands = hands i }
 
   -- They are equal except for the inputs before.
   but_for_before : one ≡ opened_as other.run.stand one.run.before

@@ -1,11 +1,11 @@
 -- Every seed has a replay, and its counts are determined.
 use Rattle.std.proofs.Common.{◌≡◌, ◌∙◌, ℕ, suc, true, List, [], ◌∷◌, length, Option, Some, None, refl, sym, ap, subst, arith}
 use Rattle.std.specs.List.{count_by, flat_map, sum_by}
-use Rattle.guess_board.specs.declared.guesses.Policy.TheVariants.{Hold}
+use Rattle.guess_board.specs.declared.guesses.Policy.{Policy}
 use Rattle.list_laws.proofs.Truths.{true_is_false}
 use Rattle.run_laws.proofs.RunTraces.{left, rest_of}
 use Rattle.spec_core.specs.Interleavings.{Done}
-use Rattle.spec_core.specs.Replays.{AreCounts, AreRounds, CanReplay, EverySeedIsReplayed, IsReplay, ReplaysAreCountedOnce, appended_by, is_back}
+use Rattle.spec_core.specs.Replays.{AreCounts, AreRounds, CanReplay, EverySeedIsReplayed, IsReplayBy, ReplaysAreCountedOnce, appended_by, is_back}
 use Rattle.spec_core.specs.Replays.{is_found, is_own, is_posted, is_refused, is_taken, replies_of}
 use Rattle.spec_core.specs.Worlds.{WorldState, tickets_in}
 use Rattle.spec_core.specs.declared.counts.Counts.{Counts}
@@ -104,11 +104,12 @@ counts_once past other to end one two same are are_too =
 -- ---- Every seed
 
 -- From an opened world there are rounds along the trace of its run.
-rounds_there : (plan : Planned) (seed workers : ℕ) → CanReplay plan → (start : HasOpened plan workers) → HaveRounds seed workers 0 start.world
-rounds_there plan seed workers can start =
+rounds_there : (plan : Planned) (window : ℕ) (policy : Policy) (seed workers : ℕ) → CanReplay plan → (start : HasOpened plan window policy workers)
+    → HaveRounds seed workers 0 start.world
+rounds_there plan window policy seed workers can start =
     let opened = start.world in
     let can_reply_there = can_reply opened start.is_world in
-    let same = planned plan workers 4 Hold opened start.is_opened in
+    let same = planned plan workers window policy opened start.is_opened in
     let here = opened.run.stand in
     let words = subst (λ (p : Planned). HasWords p.run here.at) same can_reply_there.can_go_on.is_ordered.words in
     let at_start = ap (λ (r : RunState). r.stand.at) start.is_opened.run.is in
@@ -117,12 +118,12 @@ rounds_there plan seed workers can start =
     along seed workers plan.run rest.0 rest.1 opened 0 can_reply_there (ap (λ (p : Planned). p.run) same) rest.2
 
 pub every_seed_lem : EverySeedIsReplayed
-every_seed_lem plan seed workers can =
-    let start = has_opened plan workers can in
-    let rounds = rounds_there plan seed workers can start in
+every_seed_lem plan window policy seed workers can few =
+    let start = has_opened plan window policy workers can few in
+    let rounds = rounds_there plan window policy seed workers can start in
     let past = flat_map (λ round. round) rounds.0 in
     let counted = counts_there past rounds.1 (rounds_end seed workers 0 start.world rounds.0 rounds.1 rounds.2) in
-    let replay : IsReplay plan seed workers past rounds.1 = record {
+    let replay : IsReplayBy plan window policy seed workers past rounds.1 = record {
       opened = start.world;
       is_opened = start.is_opened;
       is_world = start.is_world;
@@ -146,14 +147,15 @@ ended_there plan r ending opens fault =
     ∙ ap (λ found. is_ended (phase_or (first_some (found ∷ stop_end run at ∷ row_end run at ∷ max_end run at r.stand.ports ∷ []))
     (proposed run at r.stand.ports))) there
 
-module _ (plan : Planned) (seed workers : ℕ) (can : CanReplay plan) where
+module _ (plan : Planned) (window : ℕ) (policy : Policy) (seed workers : ℕ) (can : CanReplay plan) where
   -- No round follows where the run has ended.
   no_rounds : (from : WorldState) (rounds : List (List Done)) (to : WorldState) → is_ended from.run.phase ≡ true
       → AreRounds seed workers 0 from rounds to → (rounds ≡ []) × (to ≡ from)
   no_rounds from [] to ended are = (refl, sym are.1)
   no_rounds from (round ∷ rounds) to ended are = true_is_false (is_ended from.run.phase) ended are.0
 
-  module _ (past other : List Done) (to end : WorldState) (one : IsReplay plan seed workers past to) (two : IsReplay plan seed workers other end) where
+  module _ (past other : List Done) (to end : WorldState) (one : IsReplayBy plan window policy seed workers past to)
+      (two : IsReplayBy plan window policy seed workers other end) where
     -- From the same opened world.
     from_same : one.opened ≡ two.opened → IsSameEnd past other to end
     from_same same =
@@ -170,9 +172,9 @@ module _ (plan : Planned) (seed workers : ℕ) (can : CanReplay plan) where
     -- From worlds whose runs have ended.
     from_ended : is_ended one.opened.run.phase ≡ true → IsSameEnd past other to end
     from_ended ended =
-        let phase = same_phase_opened plan workers can one.opened two.opened one.is_opened two.is_opened one.is_world two.is_world in
-        let stand = same_stand_opened plan workers can one.opened two.opened one.is_opened two.is_opened one.is_world two.is_world in
-        let hands = same_hands_opened plan workers can one.opened two.opened one.is_opened two.is_opened one.is_world two.is_world in
+        let phase = same_phase_opened plan window policy workers can one.opened two.opened one.is_opened two.is_opened one.is_world two.is_world in
+        let stand = same_stand_opened plan window policy workers can one.opened two.opened one.is_opened two.is_opened one.is_world two.is_world in
+        let hands = same_hands_opened plan window policy workers can one.opened two.opened one.is_opened two.is_opened one.is_world two.is_world in
         let first = no_rounds one.opened one.rounds to ended one.follow in
         let second = no_rounds two.opened two.rounds end (ap is_ended (sym phase) ∙ ended) two.follow in
         record {
@@ -184,13 +186,13 @@ module _ (plan : Planned) (seed workers : ℕ) (can : CanReplay plan) where
 
     by_fault : (fault : Option Ending) → port_fault plan.run one.opened.run.stand.at.states one.opened.run.stand.ports ≡ fault
         → IsSameEnd past other to end
-    by_fault None known = from_same (opened_once plan workers can one.opened two.opened one.is_opened two.is_opened one.is_world two.is_world known)
+    by_fault None known = from_same (opened_once plan window policy workers can one.opened two.opened one.is_opened two.is_opened one.is_world two.is_world known)
     by_fault (Some ending) unknown = from_ended (ended_there plan one.opened.run ending one.is_opened.run unknown)
 
     pub same_end : IsSameEnd past other to end
     same_end = by_fault (port_fault plan.run one.opened.run.stand.at.states one.opened.run.stand.ports) refl
 
 pub counted_once_lem : ReplaysAreCountedOnce
-counted_once_lem plan seed workers one other can is is_other =
+counted_once_lem plan window policy seed workers one other can is is_other =
     counts_once is.past is_other.past is.to is_other.to one other
-    (same_end plan seed workers can is.past is_other.past is.to is_other.to is.replay is_other.replay) is.counted is_other.counted
+    (same_end plan window policy seed workers can is.past is_other.past is.to is_other.to is.replay is_other.replay) is.counted is_other.counted

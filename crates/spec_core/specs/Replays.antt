@@ -1,10 +1,12 @@
 -- The replay of a seed: rounds of events until the run has ended, in which the events of the workers are drawn; and its counts.
-use Rattle.std.specs.Prelude.{◌≡◌, ℕ, zero, suc, ◌*◌, ◌/◌, ◌%◌, ◌==◌, nat_lt, Bool, true, false, List, [], ◌∷◌, ◌++◌, length, map}
+use Rattle.std.specs.Prelude.{◌≡◌, ◌≤◌, ℕ, zero, suc, ◌*◌, ◌/◌, ◌%◌, ◌==◌, nat_lt, Bool, true, false, List, [], ◌∷◌, ◌++◌, length, map}
 use Rattle.std.specs.Prelude.{if◌then◌else◌, Option}
 use Rattle.std.specs.Io.KnownBytes.{Appends}
 use Rattle.std.specs.List.{count_by, flat_map, range_with_len, sum_by}
 use Rattle.draw_numbers.specs.Draws.{draw}
+use Rattle.guess_board.specs.declared.guesses.Policy.{Policy}
 use Rattle.guess_board.specs.declared.guesses.Policy.TheVariants.{Hold}
+use Rattle.model_rules.specs.Limits.{window_limit}
 use Rattle.spec_core.specs.Interleavings.{Done, Leads}
 use Rattle.spec_core.specs.Worlds.{IsOpenedWorld, IsWorld, WorldState, tickets_in}
 use Rattle.spec_core.specs.declared.counts.Counts.{Counts}
@@ -89,10 +91,10 @@ AreRounds seed workers number from (round ∷ rounds) to =
     (is_ended from.run.phase ≡ false) × (middle : WorldState) × IsRound seed workers number from round middle
     × AreRounds seed workers (suc number) middle rounds to
 
--- The events of the replay of a seed, from the opened world. Lines are guessed for 4 rows by words that stay.
-pub record IsReplay (plan : Planned) (seed workers : ℕ) (past : List Done) (to : WorldState) : Type 0 where
+-- The events of rounds that a seed draws, from the opened world whose lines are guessed for so many rows by this policy.
+pub record IsReplayBy (plan : Planned) (window : ℕ) (policy : Policy) (seed workers : ℕ) (past : List Done) (to : WorldState) : Type 0 where
   pub opened : WorldState
-  pub is_opened : IsOpenedWorld plan workers 4 Hold opened
+  pub is_opened : IsOpenedWorld plan workers window policy opened
   pub is_world : IsWorld opened
   pub rounds : List (List Done)
   pub follow : AreRounds seed workers 0 opened rounds to
@@ -145,12 +147,16 @@ pub record AreCounts (past : List Done) (to : WorldState) (counts : Counts) : Ty
   pub lapsed : counts.lapsed ≡ tickets_in to.hands
   pub appended : counts.appended ≡ sum_by appended_by (replies_of past)
 
--- The counts are those of the replay of a seed.
-pub record IsReplayed (plan : Planned) (seed workers : ℕ) (counts : Counts) : Type 0 where
+-- The counts are those of such a replay.
+pub record IsReplayedBy (plan : Planned) (window : ℕ) (policy : Policy) (seed workers : ℕ) (counts : Counts) : Type 0 where
   pub past : List Done
   pub to : WorldState
-  pub replay : IsReplay plan seed workers past to
+  pub replay : IsReplayBy plan window policy seed workers past to
   pub counted : AreCounts past to counts
+
+-- The counts are those of the replay of a seed. Its lines are guessed for 4 rows, by words that don't change.
+abbrev pub IsReplayed : Planned → ℕ → ℕ → Counts → Type 0
+IsReplayed plan seed workers counts = IsReplayedBy plan 4 Hold seed workers counts
 
 -- ---- What a replay writes
 
@@ -162,8 +168,7 @@ pub record PutsTrace (system : System) (last : Point) (outcome : Ending) (old ne
 
 -- ---- What holds of replays
 
--- A plan whose run has an order, its members and images, and is bounded, has a replay for every seed and every allowed number of
--- workers. There is only one: no two counts of it differ.
+-- The run of the plan is that of its system, has an order, its members and images, and is bounded.
 pub record CanReplay (plan : Planned) : Type 0 where
   pub composed : plan.run ≡ run_of plan.system
   pub order : List ℕ
@@ -172,10 +177,14 @@ pub record CanReplay (plan : Planned) : Type 0 where
   pub members : AreMembers plan.run
   pub images : HaveImages plan.run
 
+-- There is a replay for every window, policy and seed, and for every number of workers.
 abbrev pub EverySeedIsReplayed : Type 0
-EverySeedIsReplayed = (plan : Planned) (seed workers : ℕ) → CanReplay plan → (counts : Counts) × IsReplayed plan seed workers counts
+EverySeedIsReplayed =
+    (plan : Planned) (window : ℕ) (policy : Policy) (seed workers : ℕ) → CanReplay plan → window ≤ window_limit
+    → (counts : Counts) × IsReplayedBy plan window policy seed workers counts
 
+-- There is only one: no two counts of it differ.
 abbrev pub ReplaysAreCountedOnce : Type 0
 ReplaysAreCountedOnce =
-    (plan : Planned) (seed workers : ℕ) (one other : Counts) → CanReplay plan → IsReplayed plan seed workers one → IsReplayed plan seed workers other
-    → one ≡ other
+    (plan : Planned) (window : ℕ) (policy : Policy) (seed workers : ℕ) (one other : Counts) → CanReplay plan
+    → IsReplayedBy plan window policy seed workers one → IsReplayedBy plan window policy seed workers other → one ≡ other

@@ -4,6 +4,7 @@ use Rattle.std.specs.List.{AllByRecursion, sum_by}
 use Rattle.guess_board.specs.Events.{opened}
 use Rattle.guess_board.specs.Lanes.{FitsImage, IsLane, LaneState, TicketState}
 use Rattle.guess_board.specs.declared.guesses.Policy.{Policy}
+use Rattle.model_rules.specs.Limits.{window_limit}
 use Rattle.lane_outlook.specs.Outlooks.{cut_window}
 use Rattle.trace_core.specs.Runs.{IsOpened, RunState, Stands}
 use Rattle.trace_plan.specs.Plans.{ForMember, Planned}
@@ -57,7 +58,7 @@ pub record FitsInstance (images : List Compiled) (ticket : TicketState) : Type 0
 
 pub record IsWorld (world : WorldState) : Type 0 where
   pub stands : Stands world.run
-  pub window : world.window ≤ 16
+  pub window : world.window ≤ window_limit
   pub each_instance : length world.lanes ≡ length world.run.plan.run.members
   pub lanes : (instance : ℕ) (lane : LaneState) → slice_get world.lanes instance ≡ Some lane → IsLaneOf world.run.plan.run world.hands instance lane
   pub tickets : (worker : ℕ) (hand : List TicketState) → slice_get world.hands worker ≡ Some hand

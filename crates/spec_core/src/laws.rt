@@ -12,7 +12,8 @@ pub fn every_interleaving_is_told()
 {}
 
 /// A law: take a plan whose run has an order, its members and images, and is bounded. It has a replay for every seed and any
-/// number of workers, and only one: there are counts of its replay, and no others.
+/// number of workers, whatever the policy of guesses is and for every window up to 16. It has only one: there are counts of this
+/// replay, and no others.
 pub fn every_seed_has_one_replay()
     ensures some { EverySeedIsReplayed }
     ensures only { ReplaysAreCountedOnce }

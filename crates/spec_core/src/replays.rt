@@ -7,6 +7,7 @@ ghost use Rattle.trace_core.specs.declared.phase.Phase.TheVariants.{Ended};
 ghost use Rattle.trace_rows.specs.Faults.{TellsFault};
 ghost use Rattle.trace_rows.specs.Reports.{AppendsTracePrefix, AppendsRestPrefix};
 ghost use Rattle.unit_tree.specs.Successor.{first_position};
+ghost use Rattle.model_rules.specs.Limits.{worker_limit};
 
 use crate::counts::Counts;
 use crate::draws::draw_start;
@@ -34,7 +35,7 @@ fn put_rows<O: Sink>(
     course: &mut ReplayState,
     out: &mut O,
 ) -> Result<Ending, ReplayFault>
-    requires workers { workers ≤ 16 }
+    requires workers { workers ≤ worker_limit }
     requires opened { IsOpened plan.now course.old.world.run.opened course.old.world.run }
     requires few { AreFew course.old.replies }
     requires none { course.old.replies.events ≡ 0 }
@@ -67,7 +68,7 @@ fn put_trace<O: Sink>(
     course: &mut ReplayState,
     out: &mut O,
 ) -> Result<Ending, ReplayFault>
-    requires workers { workers ≤ 16 }
+    requires workers { workers ≤ worker_limit }
     requires opened { IsOpened plan.now (first_position plan.now.run) course.old.world.run }
     requires few { AreFew course.old.replies }
     requires none { course.old.replies.events ≡ 0 }
@@ -84,7 +85,7 @@ fn put_trace<O: Sink>(
 
 /// Returns the replay of a seed at its start.
 fn begin(alloc: Global, plan: Arc<Plan>, seed: u64, workers: u32) -> Result<ReplayState, NoMemory>
-    requires workers { workers ≤ 16 }
+    requires workers { workers ≤ worker_limit }
     ensures { IfOk result (IsBegun plan.value seed workers) }
 {
     let world = World::open(alloc, plan, workers, WINDOW, Policy::Hold)?;
@@ -145,7 +146,7 @@ pub fn replay<O: Sink>(
     workers: u32,
     out: &mut O,
 ) -> Result<Counts, ReplayFault>
-    requires workers { workers ≤ 16 }
+    requires workers { workers ≤ worker_limit }
     ensures whole { IfOk result (λ counts. PutsTrace plan.value.system counts.last counts.outcome (O.held out.old) (O.held out.new)) }
     ensures counts { IfOk result (IsReplayed plan.value seed workers) }
     ensures front { OnErr result (AppendsTracePrefix plan.value.system (O.held out.old) (O.held out.new)) }

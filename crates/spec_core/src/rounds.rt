@@ -6,6 +6,7 @@ ghost use Rattle.spec_core.specs.declared.event.Event.TheVariants as event;
 ghost use Rattle.spec_core.specs.declared.event.Reply.TheVariants as reply;
 ghost use Rattle.trace_core.specs.Runs.{AreCellsFull, is_ended};
 ghost use Rattle.trace_rows.specs.Passing.{IsFresh};
+ghost use Rattle.model_rules.specs.Limits.{worker_limit};
 
 use crate::draws::{next_draw, worker_event};
 use crate::event::{Event, Reply};
@@ -68,7 +69,7 @@ fn let_workers_act(
     world: &mut World,
     replies: &mut Replies,
 ) -> Result<(), NoMemory>
-    requires workers { workers ≤ 16 }
+    requires workers { workers ≤ worker_limit }
     requires instances { 1 ≤ instances }
     requires few { AreFew replies.old }
     requires room { replies.old.events + 2 * workers ≤ 2 ^ 30 }
@@ -146,7 +147,7 @@ fn make_round(
     instances: u32,
     course: &mut ReplayState,
 ) -> Result<Settle, NoMemory>
-    requires workers { workers ≤ 16 }
+    requires workers { workers ≤ worker_limit }
     requires instances { instances ≡ length course.old.world.lanes }
     requires going { is_ended course.old.world.run.phase ≡ false }
     requires few { AreFew course.old.replies }
@@ -168,7 +169,7 @@ pub(crate) fn advance(
     instances: u32,
     course: &mut ReplayState,
 ) -> Result<bool, NoMemory>
-    requires workers { workers ≤ 16 }
+    requires workers { workers ≤ worker_limit }
     requires instances { instances ≡ length course.old.world.lanes }
     requires fresh { IsFresh course.old.world.run }
     requires few { AreFew course.old.replies }

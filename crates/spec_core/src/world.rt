@@ -7,6 +7,7 @@ ghost use Rattle.spec_core.specs.Tickets.{IsDrained};
 ghost use Rattle.spec_core.specs.Worlds.{IsOpenedWorld, IsWorld};
 ghost use Rattle.spec_core.specs.declared.event.Event.TheVariants as event;
 ghost use Rattle.trace_core.specs.Runs.{AreCellsFull, is_ended};
+ghost use Rattle.model_rules.specs.Limits.{window_limit, worker_limit};
 
 use crate::event::{Event, Reply};
 use crate::opening::{hands_of, lanes_of, units_of};
@@ -175,8 +176,8 @@ impl World {
         window: u32,
         policy: Policy,
     ) -> Result<World, NoMemory>
-        requires workers { workers ≤ 16 }
-        requires window { window ≤ 16 }
+        requires workers { workers ≤ worker_limit }
+        requires window { window ≤ window_limit }
         ensures opened { IfOk result (IsOpenedWorld plan.value workers window policy) }
         ensures kept { IfOk result IsWorld }
     {

@@ -2,6 +2,7 @@ ghost use Rattle.std.specs.Prelude.{◌≡◌, ◌≤◌, ◌<◌, ◌+◌, ◌^
 ghost use Rattle.step_rule.specs.AfterStep.{after_step};
 ghost use Rattle.super_time.specs.LocalTime.{local_step};
 ghost use Rattle.unit_tree.specs.Negotiation.{agreed_step, is_held, proposal_of, reply_of};
+ghost use Rattle.model_rules.specs.Limits.{zero_limit};
 
 use super_time::{Point, limit, local_step};
 
@@ -80,7 +81,7 @@ pub fn agree(replies: &[u64]) -> u64
 pub fn after(point: Point, h: u64, zero: u64) -> NextPoint
     requires end { point.t + h ≤ 10 ^ 15 }
     requires zeros { point.n ≤ zero }
-    requires budget { zero ≤ 10000 }
+    requires budget { zero ≤ zero_limit }
     ensures { result ≡ after_step zero point h }
 {
     if h > 0 {

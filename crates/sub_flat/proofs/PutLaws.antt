@@ -5,7 +5,7 @@ use Rattle.std.proofs.lemmas.List.{at_drop_more, drop_all}
 use Rattle.nest_text.specs.declared.nest.Nest.{Nest}
 use Rattle.nest_names.specs.Flattening.{flat_wire, flat_wires, instances_of, leaves, named_in, wires_of}
 use Rattle.sub_flat.specs.FlatReading.{MadeOver, PutsOver, leaves_inside, wires_inside}
-use Rattle.nest_names.specs.declared.scope.Scope.{Scope}
+use Rattle.nest_names.specs.declared.scope.GroupScope.{GroupScope}
 use Rattle.sub_flat.specs.declared.fault.Unflat.{Unflat}
 use Rattle.sub_flat.specs.declared.fault.Unflat.TheVariants as unflat
 
@@ -75,7 +75,7 @@ put_behind_failed limit old middle more rest unflat.TooLarge is over =
 
 -- ---- Components and connections by instances
 
-pub leaves_each : (nest : Nest) (depth : ℕ) (scope : Scope)
+pub leaves_each : (nest : Nest) (depth : ℕ) (scope : GroupScope)
     → leaves nest depth scope ≡ flat_map (leaves_inside nest depth scope) (instances_of nest scope.group)
 leaves_each nest zero scope = one_each (named_in scope) (instances_of nest scope.group)
 leaves_each nest (suc depth) scope = refl
@@ -87,7 +87,7 @@ nothing_each : {A X : Type 0} (items : List X) → flat_map (nothing {A = A}) it
 nothing_each [] = refl
 nothing_each (item ∷ items) = nothing_each items
 
-pub wires_each : (nest : Nest) (depth : ℕ) (scope : Scope)
+pub wires_each : (nest : Nest) (depth : ℕ) (scope : GroupScope)
     → flat_wires nest depth scope
     ≡ flat_map (flat_wire nest scope) (wires_of nest scope.group) ++ flat_map (wires_inside nest depth scope) (instances_of nest scope.group)
 wires_each nest zero scope =

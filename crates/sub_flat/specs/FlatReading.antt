@@ -17,7 +17,7 @@ use Rattle.nest_text.specs.declared.fault.NestFault.TheVariants as fault
 use Rattle.sub_flat.specs.declared.fault.Unflat.{Unflat}
 use Rattle.sub_flat.specs.declared.fault.Unflat.TheVariants as unflat
 use Rattle.sub_flat.specs.declared.flat.FlatParts.{FlatParts}
-use Rattle.nest_names.specs.declared.scope.Scope.{Scope}
+use Rattle.nest_names.specs.declared.scope.GroupScope.{GroupScope}
 use Rattle.nest_names.specs.declared.scope.Spot.{Spot}
 use Rattle.sub_flat.specs.declared.judge.GroupRule.{GroupRule}
 use Rattle.sub_flat.specs.declared.judge.GroupRule.TheVariants as rules
@@ -48,13 +48,13 @@ IsKeptPrintable system (Err unflat.TooLarge) = IsPrintable system → ⊥
 IsKeptPrintable system (Err unflat.NoMemory) = ⊤
 
 -- The components of the flat system that an instance of a scope becomes.
-abbrev pub leaves_inside : Nest → ℕ → Scope → Instance → List Instance
+abbrev pub leaves_inside : Nest → ℕ → GroupScope → Instance → List Instance
 leaves_inside nest zero scope instance = named_in scope instance ∷ []
 leaves_inside nest (suc depth) scope instance =
     unwrap_or (option_map (leaves nest depth) (scope_of nest scope instance)) (named_in scope instance ∷ [])
 
 -- The connections inside an instance of a scope.
-abbrev pub wires_inside : Nest → ℕ → Scope → Instance → List Wire
+abbrev pub wires_inside : Nest → ℕ → GroupScope → Instance → List Wire
 wires_inside nest zero scope instance = []
 wires_inside nest (suc depth) scope instance = unwrap_or (option_map (flat_wires nest depth) (scope_of nest scope instance)) []
 

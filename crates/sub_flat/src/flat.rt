@@ -4,13 +4,14 @@ ghost use Rattle.std.specs.List.{flat_map, list_any};
 ghost use Rattle.sub_flat.specs.FlatReading.{IsKeptPrintable, MadeWithin, MakesLeaves, MakesParts, PutsWithin, leaves_inside, wire_between, wires_inside, with_parts};
 ghost use Rattle.nest_ways.specs.Walking.{AreWays};
 ghost use Rattle.nest_names.specs.Flattening.{flat_port, flat_wire, flat_wires, follow, leaves, levels, named_in, reach, top, wires_of};
+ghost use Rattle.model_rules.specs.Limits.{connection_limit, instance_limit, name_limit};
 
 use crate::fault::Unflat;
 use crate::samples::flat_samples;
 use fixed_words::{List, NoMemory};
 use model_rules::{LONGEST_NAME, MOST_CONNECTIONS, MOST_INSTANCES};
 use nest_names::{
-    LEVELS, NestNames, Scope, Spot, copied_name, copied_scope, flat_name, flat_port, follow,
+    GroupScope, LEVELS, NestNames, Spot, copied_name, copied_scope, flat_name, flat_port, follow,
     inside, top,
 };
 use nest_ways::{Guide, Ways, reached};
@@ -33,7 +34,7 @@ fn copied_settings(alloc: Global, settings: &[Setting]) -> Result<List<Setting>,
 }
 
 /// An instance of a scope, as one of the flat system.
-fn named_in(alloc: Global, scope: &Scope, instance: &Instance) -> Result<Instance, NoMemory>
+fn named_in(alloc: Global, scope: &GroupScope, instance: &Instance) -> Result<Instance, NoMemory>
     ensures { IfOk result (λ made. made ≡ named_in scope.now instance.now) }
 {
     let name = flat_name(alloc, scope, &instance.name)?;
@@ -49,12 +50,12 @@ fn named_in(alloc: Global, scope: &Scope, instance: &Instance) -> Result<Instanc
 /// Adds one more instance, if there is room.
 fn put_instance(
     alloc: Global,
-    scope: &Scope,
+    scope: &GroupScope,
     instance: &Instance,
     instances: &mut List<Instance>,
 ) -> Result<(), Unflat>
-    requires { length instances.old ≤ 64 }
-    ensures { PutsWithin 64 instances.old instances.new (named_in scope.now instance.now ∷ []) result }
+    requires { length instances.old ≤ instance_limit }
+    ensures { PutsWithin instance_limit instances.old instances.new (named_in scope.now instance.now ∷ []) result }
 {
     if instances.len() >= MOST_INSTANCES {
         return Err(Unflat::TooLarge);
@@ -69,12 +70,12 @@ fn put_inside(
     alloc: Global,
     names: &NestNames<'_>,
     depth: usize,
-    scope: &Scope,
+    scope: &GroupScope,
     instance: &Instance,
     instances: &mut List<Instance>,
 ) -> Result<(), Unflat>
-    requires { length instances.old ≤ 64 }
-    ensures { PutsWithin 64 instances.old instances.new (leaves_inside names.now depth scope.now instance.now) result }
+    requires { length instances.old ≤ instance_limit }
+    ensures { PutsWithin instance_limit instances.old instances.new (leaves_inside names.now depth scope.now instance.now) result }
 {
     if depth == 0 {
         return put_instance(alloc, scope, instance, instances);
@@ -92,11 +93,11 @@ fn put_leaves(
     alloc: Global,
     names: &NestNames<'_>,
     depth: usize,
-    scope: &Scope,
+    scope: &GroupScope,
     instances: &mut List<Instance>,
 ) -> Result<(), Unflat>
-    requires { length instances.old ≤ 64 }
-    ensures { PutsWithin 64 instances.old instances.new (leaves names.now depth scope.now) result }
+    requires { length instances.old ≤ instance_limit }
+    ensures { PutsWithin instance_limit instances.old instances.new (leaves names.now depth scope.now) result }
 {
     for instance in names.instances(scope.group) {
         put_inside(alloc, names, depth, scope, instance, instances)?;
@@ -106,8 +107,8 @@ fn put_leaves(
 
 /// Appends connections from one port to others.
 fn put_to(alloc: Global, from: &Spot, to: &[Spot], wires: &mut List<Wire>) -> Result<(), Unflat>
-    requires { length wires.old ≤ 2048 }
-    ensures { PutsWithin 2048 wires.old wires.new (map (wire_between from.now) to.now) result }
+    requires { length wires.old ≤ connection_limit }
+    ensures { PutsWithin connection_limit wires.old wires.new (map (wire_between from.now) to.now) result }
 {
     for one in to {
         if wires.len() >= MOST_CONNECTIONS {
@@ -126,13 +127,13 @@ fn put_flat_wire<'n>(
     names: &NestNames<'n>,
     ways: &Ways<'n>,
     guide: &mut Guide<'n>,
-    scope: &Scope,
+    scope: &GroupScope,
     wire: &'n Wire,
     wires: &mut List<Wire>,
 ) -> Result<(), Unflat>
-    requires room { length wires.old ≤ 2048 }
+    requires room { length wires.old ≤ connection_limit }
     requires known { AreWays names.now ways.now }
-    ensures { PutsWithin 2048 wires.old wires.new (flat_wire names.now scope.now wire.now) result }
+    ensures { PutsWithin connection_limit wires.old wires.new (flat_wire names.now scope.now wire.now) result }
 {
     let around = copied_scope(alloc, scope)?;
     let from = follow(alloc, names, LEVELS, around, &wire.from)?;
@@ -150,12 +151,12 @@ fn put_own_wires<'n>(
     names: &NestNames<'n>,
     ways: &Ways<'n>,
     guide: &mut Guide<'n>,
-    scope: &Scope,
+    scope: &GroupScope,
     wires: &mut List<Wire>,
 ) -> Result<(), Unflat>
-    requires room { length wires.old ≤ 2048 }
+    requires room { length wires.old ≤ connection_limit }
     requires known { AreWays names.now ways.now }
-    ensures { PutsWithin 2048 wires.old wires.new (flat_map (flat_wire names.now scope.now) (wires_of names.now scope.now.group)) result }
+    ensures { PutsWithin connection_limit wires.old wires.new (flat_map (flat_wire names.now scope.now) (wires_of names.now scope.now.group)) result }
 {
     for wire in names.wires(scope.group) {
         put_flat_wire(alloc, names, ways, guide, scope, wire, wires)?;
@@ -171,13 +172,13 @@ fn put_wires_inside<'n>(
     ways: &Ways<'n>,
     guide: &mut Guide<'n>,
     depth: usize,
-    scope: &Scope,
+    scope: &GroupScope,
     instance: &Instance,
     wires: &mut List<Wire>,
 ) -> Result<(), Unflat>
-    requires room { length wires.old ≤ 2048 }
+    requires room { length wires.old ≤ connection_limit }
     requires known { AreWays names.now ways.now }
-    ensures { PutsWithin 2048 wires.old wires.new (wires_inside names.now depth scope.now instance.now) result }
+    ensures { PutsWithin connection_limit wires.old wires.new (wires_inside names.now depth scope.now instance.now) result }
 {
     if depth == 0 {
         return Ok(());
@@ -197,12 +198,12 @@ fn put_wires<'n>(
     ways: &Ways<'n>,
     guide: &mut Guide<'n>,
     depth: usize,
-    scope: &Scope,
+    scope: &GroupScope,
     wires: &mut List<Wire>,
 ) -> Result<(), Unflat>
-    requires room { length wires.old ≤ 2048 }
+    requires room { length wires.old ≤ connection_limit }
     requires known { AreWays names.now ways.now }
-    ensures { PutsWithin 2048 wires.old wires.new (flat_wires names.now depth scope.now) result }
+    ensures { PutsWithin connection_limit wires.old wires.new (flat_wires names.now depth scope.now) result }
 {
     put_own_wires(alloc, names, ways, guide, scope, wires)?;
     for instance in names.instances(scope.group) {
@@ -212,7 +213,7 @@ fn put_wires<'n>(
 }
 
 fn flat_instances(alloc: Global, names: &NestNames<'_>) -> Result<List<Instance>, Unflat>
-    ensures { MadeWithin 64 (leaves names.now levels top) result }
+    ensures { MadeWithin instance_limit (leaves names.now levels top) result }
 {
     let mut instances = List::new(alloc);
     put_leaves(alloc, names, LEVELS, &top(alloc), &mut instances)?;
@@ -220,7 +221,7 @@ fn flat_instances(alloc: Global, names: &NestNames<'_>) -> Result<List<Instance>
 }
 
 fn has_long_name(instances: &[Instance]) -> bool
-    ensures { result ≡ list_any (λ instance. nat_lt 32 (length instance.name)) instances.now }
+    ensures { result ≡ list_any (λ instance. nat_lt name_limit (length instance.name)) instances.now }
 {
     instances
         .iter()
@@ -241,7 +242,7 @@ fn named_instances(alloc: Global, names: &NestNames<'_>) -> Result<List<Instance
 }
 
 fn all_flat_wires(alloc: Global, names: &NestNames<'_>) -> Result<List<Wire>, Unflat>
-    ensures { MadeWithin 2048 (flat_wires names.now levels top) result }
+    ensures { MadeWithin connection_limit (flat_wires names.now levels top) result }
 {
     let (ways, mut guide) = Ways::new(alloc, names)?;
     let mut wires = List::new(alloc);

@@ -11,7 +11,7 @@ use Rattle.std.proofs.lemmas.List.Folds.{list_all-append}
 use Rattle.std.proofs.Math.Nat.{mul_assoc, mul_comm, pow-succ'}
 use Rattle.fixed_words.specs.Texts.{padded, fixed_text}
 use Rattle.unit_tree.specs.Canonical.{token_text, tokens_text, spaced, ends_in_word}
-use Rattle.unit_tree.specs.Tokens.{is_digit, is_letter, is_word_byte, begins_with, keyword_text, symbol_text, number_from, pointed, IsNumber, IsName}
+use Rattle.unit_tree.specs.Tokens.{is_digit, is_letter, is_word_byte, begins_with, keyword_text, symbol_text, number_from, pointed, IsNumber, IsName, IsWord}
 use Rattle.unit_tree.specs.Tokens.{IsSpelling, Ends, BeginsWith, Spells}
 use Rattle.unit_tree.specs.declared.token.Symbol.{Symbol}
 use Rattle.unit_tree.specs.declared.token.Token.{Token}
@@ -42,13 +42,18 @@ gap_bound true false = omega arith
 gap_bound false true = omega arith
 gap_bound false false = omega arith
 
+-- A word has at most 32 bytes.
+pub word_short : (name : List ℕ) → IsWord name → length name ≤ 32
+word_short [] is = absurd is
+word_short (first ∷ others) is = omega (arith, is.2)
+
 -- What comes before tokens makes a difference of at most one byte.
 pub width_bound : (one other : Bool) (tokens : List Token) → width one tokens ≤ suc (width other tokens)
 width_bound one other [] = omega arith
 width_bound one other (first ∷ others) = omega (arith, gap_bound one (is_worded first))
 
 -- After a word tokens take the most bytes.
-width_most : (one : Bool) (tokens : List Token) → width one tokens ≤ width true tokens
+pub width_most : (one : Bool) (tokens : List Token) → width one tokens ≤ width true tokens
 width_most true tokens = omega arith
 width_most false [] = omega arith
 width_most false (first ∷ others) = omega arith

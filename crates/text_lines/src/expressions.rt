@@ -1,6 +1,6 @@
 //! Reading of an expression: its first operand, and then its infix operations in turn.
 ghost use Rattle.std.specs.Prelude.{◌≡◌};
-ghost use Rattle.text_tokens.specs.Scanning.{Gives, GivesFront, ReadsAs};
+ghost use Rattle.text_tokens.specs.Scanning.{Gives, GivesWithRest, ReadsAs};
 ghost use Rattle.text_lines.specs.Expressions.{GivesExpression, GivesInfix, GivesRest, WritesOneTree, ExpressionIs, after_symbol, after_then, after_else, name_at, decimals_at, grouped_at, call_at, fix_at, prefix_at, pair_at, clamp_at, choice_at, present_at, keyword_operand, symbol_operand, operand_at, infix_symbol, infix_keyword, infix_of, infix_at, climb, read, deeper, whole_tree, read_expression};
 ghost use Rattle.unit_tree.specs.Levels.{grammar_level};
 
@@ -42,7 +42,7 @@ fn after_else(tokens: &[Token]) -> Result<&[Token], Unread>
 }
 
 pub(crate) fn name_at(alloc: Global, tokens: &[Token]) -> Result<(Name, &[Token]), Unread>
-    ensures { GivesFront result (name_at tokens.now) }
+    ensures { GivesWithRest result (name_at tokens.now) }
 {
     match tokens {
         [Token::Name(name), rest @ ..] => Ok((List::from_slice(alloc, name.as_slice())?, rest)),
@@ -52,7 +52,7 @@ pub(crate) fn name_at(alloc: Global, tokens: &[Token]) -> Result<(Name, &[Token]
 
 /// The number of decimals of a conversion to fixed point, and the tokens after it.
 pub(crate) fn decimals_at(tokens: &[Token]) -> Result<(u8, &[Token]), Unread>
-    ensures { GivesFront result (decimals_at tokens.now) }
+    ensures { GivesWithRest result (decimals_at tokens.now) }
 {
     match tokens {
         [Token::Number { digits, decimals }, rest @ ..]
@@ -83,7 +83,7 @@ fn part(
 #[cycle(reading)]
 #[tactic(auto, unfolding(crate::specs::Expressions::grouped_at))]
 fn grouped(alloc: Global, budget: u8, tokens: &[Token]) -> Result<(Expr, &[Token]), Unread>
-    ensures { GivesFront result (grouped_at (deeper budget) tokens.now) }
+    ensures { GivesWithRest result (grouped_at (deeper budget) tokens.now) }
 {
     let rest = after_symbol(Symbol::Open, tokens)?;
     let (inner, _, rest) = part(alloc, budget, Level::Whole, rest)?;

@@ -1,6 +1,6 @@
 //! Reading of the form of a line.
 ghost use Rattle.std.specs.Prelude.{◌≡◌, [], ◌∷◌, ◌++◌, Some, None, if◌then◌else◌};
-ghost use Rattle.text_tokens.specs.Scanning.{Gives, GivesFront, ReadsAs};
+ghost use Rattle.text_tokens.specs.Scanning.{Gives, GivesWithRest, ReadsAs};
 ghost use Rattle.unit_tree.specs.declared.token.Symbol.TheVariants as sign;
 ghost use Rattle.unit_tree.specs.declared.token.Token.TheVariants as token;
 ghost use Rattle.text_lines.specs.Expressions.{GivesRest, after_symbol, name_at, decimals_at};
@@ -34,7 +34,7 @@ const FIXED: &[u8] = b"Fixed";
 
 /// A whole number from `low` to `high`.
 fn count_at(low: u32, high: u32, tokens: &[Token]) -> Result<(u32, &[Token]), Unread>
-    ensures { GivesFront result (count_at low high tokens.now) }
+    ensures { GivesWithRest result (count_at low high tokens.now) }
 {
     match tokens {
         [Token::Number { digits, decimals }, rest @ ..]
@@ -47,7 +47,7 @@ fn count_at(low: u32, high: u32, tokens: &[Token]) -> Result<(u32, &[Token]), Un
 
 /// A version of the language.
 fn version_at(tokens: &[Token]) -> Result<(u8, &[Token]), Unread>
-    ensures { GivesFront result (count_at 1 2 tokens.now) }
+    ensures { GivesWithRest result (count_at 1 2 tokens.now) }
 {
     match tokens {
         [Token::Number { digits, decimals }, rest @ ..]
@@ -90,7 +90,7 @@ fn plain_type(name: &[u8]) -> Option<Ty>
 /// The type with the name, with the decimals after it if it has them.
 #[tactic(auto, unfolding(crate::specs::LineReading::named_type))]
 fn named_type<'a>(name: &[u8], rest: &'a [Token]) -> Result<(Ty, &'a [Token]), Unread>
-    ensures { GivesFront result (named_type name.now rest.now) }
+    ensures { GivesWithRest result (named_type name.now rest.now) }
 {
     if name == FIXED {
         let (decimals, rest) = decimals_at(rest)?;
@@ -104,7 +104,7 @@ fn named_type<'a>(name: &[u8], rest: &'a [Token]) -> Result<(Ty, &'a [Token]), U
 
 #[tactic(auto, unfolding(crate::specs::LineReading::type_at))]
 fn type_at(tokens: &[Token]) -> Result<(Ty, &[Token]), Unread>
-    ensures { GivesFront result (type_at tokens.now) }
+    ensures { GivesWithRest result (type_at tokens.now) }
 {
     match tokens {
         [Token::Name(name), rest @ ..] => named_type(name.as_slice(), rest),
@@ -115,7 +115,7 @@ fn type_at(tokens: &[Token]) -> Result<(Ty, &[Token]), Unread>
 /// `p : T`
 #[tactic(auto, unfolding(crate::specs::LineReading::declaration_at))]
 fn declaration_at(alloc: Global, tokens: &[Token]) -> Result<(Local, &[Token]), Unread>
-    ensures { GivesFront result (declaration_at tokens.now) }
+    ensures { GivesWithRest result (declaration_at tokens.now) }
 {
     let (name, rest) = name_at(alloc, tokens)?;
     let rest = after_symbol(Symbol::Colon, rest)?;
@@ -126,7 +126,7 @@ fn declaration_at(alloc: Global, tokens: &[Token]) -> Result<(Local, &[Token]), 
 /// `a.y`
 #[tactic(auto, unfolding(crate::specs::LineReading::port_at))]
 fn port_at(alloc: Global, tokens: &[Token]) -> Result<(PortName, &[Token]), Unread>
-    ensures { GivesFront result (port_at tokens.now) }
+    ensures { GivesWithRest result (port_at tokens.now) }
 {
     let (instance, rest) = name_at(alloc, tokens)?;
     let rest = after_symbol(Symbol::Point, rest)?;
@@ -141,7 +141,7 @@ fn more_names(
     names: List<Name>,
     tokens: &[Token],
 ) -> Result<(List<Name>, &[Token]), Unread>
-    ensures { GivesFront result (more_names names tokens.now) }
+    ensures { GivesWithRest result (more_names names tokens.now) }
 {
     match tokens {
         [Token::Symbol(Symbol::Comma), rest @ ..] => next_names(alloc, names, rest),
@@ -157,7 +157,7 @@ fn next_names(
     names: List<Name>,
     tokens: &[Token],
 ) -> Result<(List<Name>, &[Token]), Unread>
-    ensures { GivesFront result (more_names names (token.Symbol sign.Comma ∷ tokens.now)) }
+    ensures { GivesWithRest result (more_names names (token.Symbol sign.Comma ∷ tokens.now)) }
 {
     let (name, rest) = name_at(alloc, tokens)?;
     let mut names = names;
@@ -167,7 +167,7 @@ fn next_names(
 
 /// `needs u, v`, or nothing.
 fn needs_at(alloc: Global, tokens: &[Token]) -> Result<(List<Name>, &[Token]), Unread>
-    ensures { GivesFront result (needs_at tokens.now) }
+    ensures { GivesWithRest result (needs_at tokens.now) }
 {
     match tokens {
         [Token::Keyword(Keyword::Needs), rest @ ..] => next_names(alloc, List::new(alloc), rest),

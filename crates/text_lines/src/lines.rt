@@ -22,7 +22,7 @@ pub enum LineClass {
     Written,
 }
 
-/// How many bytes come before the comment.
+/// Returns how many bytes come before the comment.
 fn code_length(line: &[u8]) -> usize
     ensures length { result ≡ prefix_len (λ byte. not (byte == 35)) line.now }
     ensures within { result ≤ length line.now }
@@ -30,14 +30,14 @@ fn code_length(line: &[u8]) -> usize
     line.iter().take_while(|byte| **byte != COMMENT).count()
 }
 
-/// The bytes before the comment.
+/// Returns the bytes of a line before its comment.
 pub fn code(line: &[u8]) -> &[u8]
     ensures { result.now ≡ code_of line.now }
 {
     line.split_at(code_length(line)).0
 }
 
-/// The line without the carriage return that belongs to its end.
+/// Returns a line without the carriage return that belongs to its end.
 pub fn without_return(line: &[u8]) -> &[u8]
     ensures { result.now ≡ without_return line.now }
 {
@@ -47,7 +47,8 @@ pub fn without_return(line: &[u8]) -> &[u8]
     }
 }
 
-fn is_blank(byte: u8) -> bool
+/// Returns whether a byte is a space or a tab.
+pub fn is_blank(byte: u8) -> bool
     ensures { result ≡ is_blank byte }
 {
     byte == b' ' || byte == b'\t'

@@ -30,10 +30,10 @@ Gives (Err unread.NoForm) read = read ≡ None
 Gives (Err unread.NoMemory) read = ⊤
 
 -- The result is what the definition of the reading gives for the beginning, with the rest after it.
-abbrev pub GivesFront : {X Y : Type 0} → Result (X × Bor (List Y)) Unread → Option (X × List Y) → Type 0
-GivesFront (Ok x) read = read ≡ Some (x.0, x.1.now)
-GivesFront (Err unread.NoForm) read = read ≡ None
-GivesFront (Err unread.NoMemory) read = ⊤
+abbrev pub GivesWithRest : {X Y : Type 0} → Result (X × Bor (List Y)) Unread → Option (X × List Y) → Type 0
+GivesWithRest (Ok x) read = read ≡ Some (x.0, x.1.now)
+GivesWithRest (Err unread.NoForm) read = read ≡ None
+GivesWithRest (Err unread.NoMemory) read = ⊤
 
 -- The keywords, and the symbols, that begin with the byte.
 abbrev pub keywords_from : ℕ → List Keyword

@@ -1,7 +1,7 @@
 ghost use Rattle.std.specs.Prelude.{◌≡◌, ◌≤◌, ◌<◌, ◌+◌, ◌-◌, ◌*◌, ◌^◌, ◌∷◌, length, take, drop, IfOk};
 ghost use Rattle.std.specs.List.{prefix_len};
 ghost use Rattle.unit_tree.specs.Tokens.{is_blank, is_digit, is_word_byte, keyword_text, symbol_text, number_from};
-ghost use Rattle.text_tokens.specs.Scanning.{Gives, GivesFront, ReadsAs, keywords_from, symbols_from, keywords_like, symbols_like, keyword_of, symbol_of, word_token, word_at, bounded_number, fraction_of, number_token, number_at, symbol_at, token_at, TokensAre};
+ghost use Rattle.text_tokens.specs.Scanning.{Gives, GivesWithRest, ReadsAs, keywords_from, symbols_from, keywords_like, symbols_like, keyword_of, symbol_of, word_token, word_at, bounded_number, fraction_of, number_token, number_at, symbol_at, token_at, TokensAre};
 
 use crate::fault::Unread;
 use fixed_words::List;
@@ -155,7 +155,7 @@ fn word_token(alloc: Global, text: &[u8]) -> Result<Token, Unread>
 
 #[tactic(auto, unfolding(crate::specs::Scanning::word_at))]
 fn word_at(alloc: Global, bytes: &[u8]) -> Result<(Token, &[u8]), Unread>
-    ensures { GivesFront result (word_at bytes.now) }
+    ensures { GivesWithRest result (word_at bytes.now) }
 {
     let (text, rest) = bytes.split_at(word_length(bytes));
     Ok((word_token(alloc, text)?, rest))
@@ -215,7 +215,7 @@ fn number_token(whole: &[u8], fraction: &[u8]) -> Result<Token, Unread>
 
 #[tactic(auto, unfolding(crate::specs::Scanning::number_at))]
 fn number_at(bytes: &[u8]) -> Result<(Token, &[u8]), Unread>
-    ensures { GivesFront result (number_at bytes.now) }
+    ensures { GivesWithRest result (number_at bytes.now) }
 {
     let (whole, behind) = bytes.split_at(digits_length(bytes));
     let (fraction, rest) = fraction_of(behind);
@@ -236,7 +236,7 @@ fn cut(bytes: &[u8], count: usize) -> (&[u8], &[u8])
 
 #[tactic(auto, unfolding(crate::specs::Scanning::symbol_at))]
 fn symbol_at(bytes: &[u8]) -> Result<(Token, &[u8]), Unread>
-    ensures { GivesFront result (symbol_at bytes.now) }
+    ensures { GivesWithRest result (symbol_at bytes.now) }
 {
     let (pair, behind) = cut(bytes, 2);
     if let Some(symbol) = symbol_of(pair) {
@@ -252,7 +252,7 @@ fn symbol_at(bytes: &[u8]) -> Result<(Token, &[u8]), Unread>
 /// The token at the beginning of bytes that don't begin with a blank, and the rest.
 #[tactic(auto, unfolding(crate::specs::Scanning::token_at))]
 fn token_at(alloc: Global, bytes: &[u8]) -> Result<(Token, &[u8]), Unread>
-    ensures { GivesFront result (token_at bytes.now) }
+    ensures { GivesWithRest result (token_at bytes.now) }
 {
     match bytes {
         [] => Err(Unread::NoForm),

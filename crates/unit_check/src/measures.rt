@@ -6,6 +6,7 @@ ghost use Rattle.unit_check.specs.Walks.{scope_of, form_of};
 ghost use Rattle.unit_tree.specs.Names.{expression_on};
 ghost use Rattle.unit_tree.specs.Plain.{presence_of, word_expression_of};
 ghost use Rattle.unit_tree.specs.WellFormed.{step_cost};
+ghost use Rattle.model_rules.specs.Limits.{cost_limit};
 
 use crate::walk::{FormRef, ScopeRef};
 use fixed_words::List;
@@ -78,7 +79,7 @@ fn is_dear_event(event: &EventOut) -> bool
 /// Whether a step costs too much.
 #[tactic(auto, using(crate::proofs::PlainMeasures::steps_are))]
 fn is_dear_step(step: &Option<List<Line>>) -> bool
-    ensures { result ≡ nat_lt 100000 (step_cost step.now) }
+    ensures { result ≡ nat_lt cost_limit (step_cost step.now) }
 {
     match step {
         Some(lines) => lines_cost(lines.as_slice()) + 1 > GREATEST_COST,

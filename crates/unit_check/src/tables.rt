@@ -4,6 +4,7 @@ ghost use Rattle.unit_check.specs.Places.{first_port};
 ghost use Rattle.unit_check.specs.Counts.{plain_wire_count, is_from};
 ghost use Rattle.unit_tree.specs.Plain.{plain_wires, is_event_output};
 ghost use Rattle.unit_check.specs.Joins.{is_event_found};
+ghost use Rattle.model_rules.specs.Limits.{connection_limit};
 
 use crate::port_tables::{PortPlaces, find_port, places_of_connections, places_of_samples};
 use fixed_words::NoMemory;
@@ -46,7 +47,7 @@ fn width(names: &SystemNames<'_>, wire: &Wire) -> u32
 /// The first connection that is one too many in the plain form.
 #[tactic(auto, using(crate::proofs::PlainWires::first_exceeds, crate::proofs::PlainWires::none_exceeds, crate::proofs::PlainWires::next_count))]
 fn first_wire_too_many(names: &SystemNames<'_>) -> Option<usize>
-    ensures { (place : ℕ) → nat_lt 2048 (plain_wire_count names.now (place + 1)) ≡ is_from place result }
+    ensures { (place : ℕ) → nat_lt connection_limit (plain_wire_count names.now (place + 1)) ≡ is_from place result }
 {
     let mut count = 0;
     for (place, wire) in names.system().wires.as_slice().iter().enumerate() {
@@ -71,6 +72,7 @@ impl<'a> Model for SystemTables<'a> {
     ghost use Rattle.std.specs.Coded.{codes};
     ghost use Rattle.std.specs.Prelude.{◌≡◌, ◌+◌, ℕ, nat_lt, map};
     ghost use Rattle.unit_check.specs.Counts.{plain_wire_count, is_from};
+    ghost use Rattle.model_rules.specs.Limits.{connection_limit};
     ghost use Rattle.unit_check.specs.PortTables.{FindsPorts};
     ghost use Rattle.unit_tree.specs.contracts.expr.Expr as expr;
     ghost use Rattle.unit_tree.specs.contracts.line.Line as line;
@@ -85,7 +87,7 @@ impl<'a> Model for SystemTables<'a> {
     ghost invariant = { λ tables.
         FindsPorts (map (λ wire. wire.to) tables.names.wires) tables.connected
         × FindsPorts tables.names.samples tables.sampled
-        × ((place : ℕ) → nat_lt 2048 (plain_wire_count tables.names (place + 1)) ≡ is_from place tables.wire_too_many) };
+        × ((place : ℕ) → nat_lt connection_limit (plain_wire_count tables.names (place + 1)) ≡ is_from place tables.wire_too_many) };
 }
 
 impl<'a> SystemTables<'a> {
@@ -115,7 +117,7 @@ impl<'a> SystemTables<'a> {
 
     /// Whether there are too many connections up to one of them, in the plain form.
     pub(crate) fn has_too_many_wires(&self, place: usize) -> bool
-        ensures { result ≡ nat_lt 2048 (plain_wire_count self.now (place + 1)) }
+        ensures { result ≡ nat_lt connection_limit (plain_wire_count self.now (place + 1)) }
     {
         match self.wire_too_many {
             Some(first) => first <= place,

@@ -3,6 +3,7 @@ ghost use Rattle.std.specs.Prelude.{◌≡◌, ◌&&◌, nat_lt, length};
 ghost use Rattle.std.specs.List.{list_all};
 ghost use Rattle.unit_tree.specs.Tokens.{is_word_byte};
 ghost use Rattle.unit_print.specs.Fitting.{is_word, reserved_words, is_reserved, is_name};
+ghost use Rattle.model_rules.specs.Limits.{name_limit};
 
 use model_rules::LONGEST_NAME;
 use unit_tree::{Keyword, is_letter, is_word_byte};
@@ -15,7 +16,7 @@ fn are_word_bytes(bytes: &[u8]) -> bool
 
 /// Whether bytes are allowed after the first byte of a word.
 fn goes_on(others: &[u8]) -> bool
-    ensures { result ≡ (list_all is_word_byte others.now && nat_lt (length others.now) 32) }
+    ensures { result ≡ (list_all is_word_byte others.now && nat_lt (length others.now) name_limit) }
 {
     are_word_bytes(others) && others.len() < LONGEST_NAME
 }

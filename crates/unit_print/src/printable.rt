@@ -4,6 +4,7 @@ ghost use Rattle.std.specs.List.{list_all};
 ghost use Rattle.unit_tree.specs.Canonical.{canonical_forms};
 ghost use Rattle.unit_tree.specs.Printable.{IsPrintable, line_depth, step_depth};
 ghost use Rattle.unit_print.specs.Fitting.{are_short, line_fits};
+ghost use Rattle.model_rules.specs.Limits.{block_limit, text_limit};
 
 use crate::fitting::system_fits;
 use crate::printing::print_system;
@@ -57,7 +58,7 @@ fn step_is_within(step: &Option<List<Line>>, depth: u32) -> bool
 }
 
 fn steps_are_within(units: &[Unit]) -> bool
-    ensures { result ≡ list_all (λ unit. nat_le (step_depth unit.step) 16) units.now }
+    ensures { result ≡ list_all (λ unit. nat_le (step_depth unit.step) block_limit) units.now }
 {
     units
         .iter()
@@ -83,7 +84,7 @@ fn has_short_lines(text: &[u8]) -> bool
 
 /// Whether a text and its lines are short enough.
 fn text_fits(text: &[u8]) -> bool
-    ensures { result ≡ (nat_le (length text.now) 1048576 && are_short 0 text.now) }
+    ensures { result ≡ (nat_le (length text.now) text_limit && are_short 0 text.now) }
 {
     text.len() <= LONGEST_TEXT && has_short_lines(text)
 }
@@ -91,7 +92,7 @@ fn text_fits(text: &[u8]) -> bool
 /// Whether the lines of a system, apart from their lengths, and its blocks are within the limits of the language.
 fn parts_fit(system: &System) -> bool
     ensures { result ≡ (list_all (line_fits system.now.version) (canonical_forms system.now)
-        && list_all (λ unit. nat_le (step_depth unit.step) 16) system.now.units) }
+        && list_all (λ unit. nat_le (step_depth unit.step) block_limit) system.now.units) }
 {
     system_fits(system) && steps_are_within(system.units.as_slice())
 }

@@ -4,7 +4,7 @@ use Rattle.std.specs.Prelude.{◌≡◌, ◌≤◌, ℕ, ◌==◌, ◌-◌, ◌/
 use Rattle.std.specs.List.{AllByRecursion, filter_map, position_or_len}
 use Rattle.std.specs.Option.{unwrap_or}
 use Rattle.std.specs.Str.{bytes_eq}
-use Rattle.model_rules.specs.Limits.{cell_limit}
+use Rattle.model_rules.specs.Limits.{cell_limit, default_rows_limit, default_zeros}
 use Rattle.fixed_words.specs.declared.types.Literal.{Literal}
 use Rattle.super_time.specs.Seconds.{ticks_in}
 use Rattle.unit_tree.specs.Components.{Component, start_word}
@@ -100,12 +100,9 @@ ticks_or default resolution (Some seconds) = unwrap_or (ticks_in resolution seco
 abbrev pub stop_of : System → ℕ
 stop_of system = ticks_or 0 (resolution_of system) system.stop
 
--- The defaults of the two budgets, by the version of the language. Rows times instances are at most 1,000,000.
-abbrev pub default_zeros : ℕ → ℕ
-default_zeros version = if version == 2 then 1000 else 100
-
+-- The row budget where the text gives none, by the version of the language. Rows times instances have a limit.
 abbrev pub default_rows : ℕ → ℕ → ℕ
-default_rows version instances = min (if version == 2 then 10000 else 100000) (cell_limit / instances)
+default_rows version instances = min (default_rows_limit version) (cell_limit / instances)
 
 -- A system without event ports. The plain form of every system in range is one.
 abbrev pub HasNoEvents : System → Type 0

@@ -11,7 +11,8 @@ use Rattle.fixed_words.specs.Digits.{pointed}
 use Rattle.fixed_words.specs.Texts.{fixed_text, pointed_before}
 use Rattle.unit_print.proofs.GrowingTexts.{number_behind}
 use Rattle.unit_tree.specs.Canonical.{canonical_text, ends_in_word, line_text, spaced}
-use Rattle.unit_tree.specs.Compositions.{default_rows, default_zeros}
+use Rattle.model_rules.specs.Limits.{default_zeros}
+use Rattle.unit_tree.specs.Compositions.{default_rows}
 use Rattle.unit_tree.specs.declared.line_form.LineForm.{LineForm}
 use Rattle.unit_tree.specs.declared.line_form.LineForm.TheVariants as form
 use Rattle.unit_tree.specs.declared.system.System.{System}

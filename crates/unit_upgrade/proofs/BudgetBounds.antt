@@ -4,7 +4,8 @@ use Rattle.std.proofs.Common.{div-mul-le_self, mul-le-mul_right, nat_lt, unwrap_
 use Rattle.std.proofs.lemmas.Bool.Decides.{nat_tests}
 use Rattle.std.proofs.lemmas.Nat.{le-div}
 use Rattle.trace_plan.proofs.SystemLines.{few_instances, instance_there, row_count, zero_count}
-use Rattle.unit_tree.specs.Compositions.{default_rows, default_zeros}
+use Rattle.model_rules.specs.Limits.{default_zeros}
+use Rattle.unit_tree.specs.Compositions.{default_rows}
 use Rattle.unit_tree.specs.Printable.{IsRanged}
 use Rattle.unit_tree.specs.WellFormed.{IsWellFormed}
 use Rattle.unit_tree.specs.declared.system.Instance.{Instance}

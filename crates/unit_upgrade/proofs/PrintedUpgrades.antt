@@ -7,7 +7,8 @@ use Rattle.std.proofs.lemmas.Fmt.{length-decimal-le}
 use Rattle.list_laws.proofs.Lists.{back_of, each_append, front_of}
 use Rattle.list_laws.proofs.Truths.{le_asked}
 use Rattle.unit_tree.specs.Canonical.{canonical_forms, canonical_text, line_text}
-use Rattle.unit_tree.specs.Compositions.{default_rows, default_zeros}
+use Rattle.model_rules.specs.Limits.{default_zeros}
+use Rattle.unit_tree.specs.Compositions.{default_rows}
 use Rattle.unit_tree.specs.LineForms.{tail_of}
 use Rattle.unit_tree.specs.Printable.{IsInRange, IsPrintable, IsRanged, is_writable, names_on}
 use Rattle.model_rules.specs.Limits.{line_limit, text_limit}

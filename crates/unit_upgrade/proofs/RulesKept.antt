@@ -12,7 +12,8 @@ use Rattle.language_laws.proofs.NameLaws.{Hold, all_keep, hold_all, hold_behind}
 use Rattle.text_laws.proofs.KeptRules.{all_hold, no_number}
 use Rattle.list_laws.proofs.Lists.{each_append, each_so}
 use Rattle.unit_tree.specs.Canonical.{canonical_parts}
-use Rattle.unit_tree.specs.Compositions.{default_rows, default_zeros}
+use Rattle.model_rules.specs.Limits.{default_zeros}
+use Rattle.unit_tree.specs.Compositions.{default_rows}
 use Rattle.unit_tree.specs.LineForms.{are_alike, tail_of, tail_speaks_of_events}
 use Rattle.unit_tree.specs.Names.{expression_on, same_port}
 use Rattle.unit_tree.specs.Parts as parts

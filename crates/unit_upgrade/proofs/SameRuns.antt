@@ -6,7 +6,8 @@ use Rattle.event_runs.specs.EventPorts.{EventMember}
 use Rattle.event_runs.specs.EventRuns.{IsEventTraceOf, event_members_of, event_run_of, feed_from, with_feeds}
 use Rattle.event_runs.specs.EventTrace.{EventRow, EventRun, IsEventTrace, event_rows_of}
 use Rattle.super_time.specs.declared.point.Point.{Point}
-use Rattle.unit_tree.specs.Compositions.{InputSource, Member, component_with, default_rows, default_zeros, factor_of, member_with}
+use Rattle.model_rules.specs.Limits.{default_zeros}
+use Rattle.unit_tree.specs.Compositions.{InputSource, Member, component_with, default_rows, factor_of, member_with}
 use Rattle.unit_tree.specs.Compositions.{source_from, stop_of, ticks_or}
 use Rattle.unit_tree.specs.Names.{unit_of_instance}
 use Rattle.unit_tree.specs.Orders.{HasNoCycle, IsOrderlyAfter, port_of, sources_of}

@@ -2,7 +2,8 @@
 use Rattle.std.specs.Prelude.{◌<◌, ◌≤◌, ◌==◌, if◌then◌else◌, length, Some, ⊤}
 use Rattle.std.specs.Option.{unwrap_or}
 use Rattle.unit_tree.specs.Canonical.{canonical_text}
-use Rattle.unit_tree.specs.Compositions.{default_rows, default_zeros}
+use Rattle.model_rules.specs.Limits.{default_zeros}
+use Rattle.unit_tree.specs.Compositions.{default_rows}
 use Rattle.model_rules.specs.Limits.{text_limit}
 use Rattle.unit_tree.specs.declared.system.System.{System}
 use Rattle.unit_upgrade.specs.declared.fault.UpgradeFault.{UpgradeFault}

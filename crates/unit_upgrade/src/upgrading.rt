@@ -10,14 +10,11 @@ ghost use Rattle.unit_upgrade.specs.Upgrades.{IsRightFault, IsShortEnough, in_ve
 use crate::fault::UpgradeFault;
 use fixed_words::NoMemory;
 use itoa::Buffer;
-use model_rules::{LONGEST_TEXT, MOST_CELLS, MOST_ROWS};
+use model_rules::{DEFAULT_ZERO_STEPS, LONGEST_TEXT, MOST_CELLS, MOST_ROWS};
 use std::alloc::Global;
 use unit_plain::copy_system;
 use unit_print::print_system;
 use unit_tree::System;
-
-/// The zero budget of version 1, where the text has none.
-const DEFAULT_ZEROS: u32 = 100;
 
 /// Returns the budget of rows of a system of version 1, where its text has none.
 fn default_rows(system: &System) -> u32
@@ -73,7 +70,7 @@ fn in_version_2(alloc: Global, system: &System) -> Result<System, NoMemory>
 {
     let mut made = copy_system(alloc, system)?;
     made.version = 2;
-    made.zero = Some(system.zero.unwrap_or(DEFAULT_ZEROS));
+    made.zero = Some(system.zero.unwrap_or(DEFAULT_ZERO_STEPS));
     made.rows = Some(system.rows.unwrap_or(default_rows(system)));
     Ok(made)
 }

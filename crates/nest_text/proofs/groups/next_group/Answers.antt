@@ -20,7 +20,7 @@ read_group-requires-clause-long c =
 
 pub returns-in_err-group-clause-group : goal.returns-in_err-group-clause-group
 returns-in_err-group-clause-group c = λ lines are.
-    let group : GroupLines = record { name = c.args.name; head = c.args.head; body = (parted lines).front } in
+    let group : GroupLines = record { name = c.args.name; head = c.args.head; body = (parted lines).prefix } in
     let done =
     ready c.args.text.now c.args.head c.args.name lines c.in_ok-body.body c.gather.new.body c.in_ok-rest.rest.now c.in_ok-rest.number are
     c.in_ok-body.ensures (c.in_ok-rest.ensures.lines lines are) in
@@ -30,7 +30,7 @@ returns-in_err-group-clause-group c = λ lines are.
 
 pub returns-clause-group : goal.returns-clause-group
 returns-clause-group c = λ lines are.
-    let group : GroupLines = record { name = c.args.name; head = c.args.head; body = (parted lines).front } in
+    let group : GroupLines = record { name = c.args.name; head = c.args.head; body = (parted lines).prefix } in
     let gathers = c.in_ok-rest.ensures.lines lines are in
     let done =
     ready c.args.text.now c.args.head c.args.name lines c.in_ok-body.body c.gather.new.body c.in_ok-rest.rest.now c.in_ok-rest.number are

@@ -18,7 +18,7 @@ returns-in_err-groups c =
     let why = c.in_err-groups.field-0.0 in
     record {
       answer = handed_on c.from_residual-in_err-groups.result why (AnswersNest c.args.text.now) c.from_residual-in_err-groups.ensures.1
-          (groups_failed c.args.text.now c.in_ok-front.front.now c.in_ok-front.main_line c.in_ok-front.rest.now why short c.in_ok-front.ensures.cut
+          (groups_failed c.args.text.now c.in_ok-prefix.prefix.now c.in_ok-prefix.main_line c.in_ok-prefix.rest.now why short c.in_ok-prefix.ensures.cut
           c.in_err-groups.ensures);
     }
 
@@ -28,14 +28,14 @@ returns-in_err-main c =
     let why = c.in_err-main.field-0.0 in
     record {
       answer = handed_on c.from_residual-in_err-main.result why (AnswersNest c.args.text.now) c.from_residual-in_err-main.ensures.1
-          (main_failed c.args.text.now c.in_ok-front.front.now c.in_ok-front.main_line c.in_ok-front.rest.now c.in_ok-groups.groups c.in_ok-groups.lines why
-          short c.in_ok-front.ensures.cut c.in_ok-groups.ensures c.in_err-main.ensures);
+          (main_failed c.args.text.now c.in_ok-prefix.prefix.now c.in_ok-prefix.main_line c.in_ok-prefix.rest.now c.in_ok-groups.groups c.in_ok-groups.lines why
+          short c.in_ok-prefix.ensures.cut c.in_ok-groups.ensures c.in_err-main.ensures);
     }
 
 pub returns : goal.returns
 returns c =
     let short : size_of c.args.text.now ≤ 1048576 = grind (arith, nat_tests, c.size.ensures, c.if-size-gt-LONGEST_TEXT.false) in
     record {
-      answer = nest_is_read c.args.text.now c.in_ok-front.front.now c.in_ok-front.main_line c.in_ok-front.rest.now c.in_ok-groups.groups c.in_ok-groups.lines
-          c.in_ok-main.main short c.in_ok-front.ensures.cut c.in_ok-groups.ensures c.in_ok-main.ensures;
+      answer = nest_is_read c.args.text.now c.in_ok-prefix.prefix.now c.in_ok-prefix.main_line c.in_ok-prefix.rest.now c.in_ok-groups.groups c.in_ok-groups.lines
+          c.in_ok-main.main short c.in_ok-prefix.ensures.cut c.in_ok-groups.ensures c.in_ok-main.ensures;
     }

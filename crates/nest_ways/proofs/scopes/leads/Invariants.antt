@@ -1,10 +1,10 @@
 use Rattle.std.proofs.Common.{◌≡◌, ◌+◌, ◌<◌, ℕ, Some}
 use Rattle.std.specs.Prelude.{slice_get}
 use Rattle.nest_names.specs.Flattening.{inside}
-use Rattle.nest_names.specs.declared.scope.Scope.{Scope}
+use Rattle.nest_names.specs.declared.scope.GroupScope.{GroupScope}
 use Rattle.nest_ways.proofs.scopes.leads.Given as goal
 
 abbrev pub invariant-loop-base : goal.invariant-loop-base
 invariant-loop-base l =
-    (k : ℕ) (scope : Scope) → k < l.base → slice_get l.scopes k ≡ Some scope → scope.group ≡ Some l.group
+    (k : ℕ) (scope : GroupScope) → k < l.base → slice_get l.scopes k ≡ Some scope → scope.group ≡ Some l.group
     → slice_get l.scopes (k + l.offset) ≡ Some (inside scope l.name l.place)

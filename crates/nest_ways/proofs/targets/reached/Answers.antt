@@ -1,6 +1,6 @@
 use Rattle.std.proofs.Common.{◌≡◌, ◌∙◌, ◌<◌, ℕ, List, Some, ap, length, subst, sym}
 use Rattle.nest_names.specs.Flattening.{place_at}
-use Rattle.nest_names.specs.declared.scope.Scope.{Scope}
+use Rattle.nest_names.specs.declared.scope.GroupScope.{GroupScope}
 use Rattle.nest_names.specs.declared.scope.Spot.{Spot}
 use Rattle.nest_ways.specs.Walking.{Reaches, reached_inside}
 use Rattle.nest_ways.proofs.WayLaws.{target_reached}
@@ -13,7 +13,7 @@ returns-in-All c =
     let to = c.args.to.now in
     let place = c.in-Some.place in
     let spot : Spot = record { scope = scope; port = to } in
-    let all : Scope → List ℕ → List Spot = λ inner port. reached_inside nest inner place port in
+    let all : GroupScope → List ℕ → List Spot = λ inner port. reached_inside nest inner place port in
     let at : place_at nest scope.group to.instance ≡ Some place =
     sym (ap (place_at nest scope.group) c.as_slice.ensures) ∙ sym c.place_at.ensures ∙ c.in-Some.is in
     subst (Reaches c.args.most (all c.in_ok-inner.inner c.as_slice-port.result.now)) c.in-All.is c.in_ok-spots.ensures
@@ -28,7 +28,7 @@ returns-in-TooMany c =
     let to = c.args.to.now in
     let place = c.in-Some.place in
     let spot : Spot = record { scope = scope; port = to } in
-    let all : Scope → List ℕ → List Spot = λ inner port. reached_inside nest inner place port in
+    let all : GroupScope → List ℕ → List Spot = λ inner port. reached_inside nest inner place port in
     let at : place_at nest scope.group to.instance ≡ Some place =
     sym (ap (place_at nest scope.group) c.as_slice.ensures) ∙ sym c.place_at.ensures ∙ c.in-Some.is in
     subst (λ (spots : List Spot). c.args.most < length spots)

@@ -2,7 +2,7 @@ use Rattle.std.proofs.Common.{◌≡◌, ◌∙◌, ◌+◌, Some, ap, subst, sy
 use Rattle.std.specs.Prelude.{slice_get}
 use Rattle.std.specs.Option.{option_map}
 use Rattle.std.proofs.lemmas.Option.{same_Some}
-use Rattle.nest_names.specs.declared.scope.Scope.{Scope}
+use Rattle.nest_names.specs.declared.scope.GroupScope.{GroupScope}
 use Rattle.nest_ways.specs.Walking.{IsNumbered}
 use Rattle.nest_ways.proofs.WayLaws.{some_is}
 use Rattle.nest_ways.proofs.walk.scope_number.Goals as goal
@@ -19,6 +19,6 @@ returns c number known is found =
     let own = c.requires known found in
     let same : own.scope ≡ scope = same_Some own.scope scope (sym own.there ∙ ap (slice_get scopes) (sym behind) ∙ there) in
     let of_group : c.in_ok-scope-2.field-0 ≡ known.group =
-    same_Some c.in_ok-scope-2.field-0 known.group (sym c.in_ok-scope-2.was ∙ ap (λ (one : Scope). one.group) (sym same) ∙ own.of_group) in
+    same_Some c.in_ok-scope-2.field-0 known.group (sym c.in_ok-scope-2.was ∙ ap (λ (one : GroupScope). one.group) (sym same) ∙ own.of_group) in
     subst (λ group. IsNumbered group_scopes group number (c.args.start.now.base + c.args.inlet.scope)) of_group
     (subst (λ at. IsNumbered group_scopes c.in_ok-scope-2.field-0 number at) behind (c.number.ensures number is))

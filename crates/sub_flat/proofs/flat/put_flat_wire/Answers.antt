@@ -1,7 +1,7 @@
 use Rattle.std.proofs.Common.{◌≡◌, ◌∙◌, ◌-◌, ◌∷◌, [], ap, arith, map, subst}
 use Rattle.std.proofs.lemmas.List.{length-map}
 use Rattle.nest_names.specs.Flattening.{flat_wire, follow, levels, reach}
-use Rattle.nest_names.specs.declared.scope.Scope.{Scope}
+use Rattle.nest_names.specs.declared.scope.GroupScope.{GroupScope}
 use Rattle.nest_names.specs.declared.scope.Spot.{Spot}
 use Rattle.nest_ways.specs.Walking.{IsReached}
 use Rattle.sub_flat.specs.FlatReading.{PutsWithin, wire_between}
@@ -12,7 +12,7 @@ returns c =
     let nest = c.args.names.now in
     let spot : Spot = record { scope = c.args.scope.now; port = c.args.wire.now.to } in
     let from =
-    c.in_ok-from.ensures ∙ ap (λ (around : Scope). follow nest levels (record { scope = around; port = c.args.wire.now.from })) c.in_ok-around.ensures in
+    c.in_ok-from.ensures ∙ ap (λ (around : GroupScope). follow nest levels (record { scope = around; port = c.args.wire.now.from })) c.in_ok-around.ensures in
     let to = c.as_slice.ensures ∙ subst (IsReached nest (2048 - c.len-room.result) spot) c.in-Some.is c.in_ok-to.ensures in
     let is : map (wire_between c.in_ok-from.from) c.as_slice.result.now ≡ flat_wire nest c.args.scope.now c.args.wire.now = λ i. map (wire_between (from i)) (to i) in
     subst (λ all. PutsWithin 2048 c.args.wires.now c.put_to.new.wires all c.put_to.result) is c.put_to.ensures

@@ -3,7 +3,7 @@ use Rattle.std.specs.Prelude.{slice_get}
 use Rattle.std.specs.Option.{option_map}
 use Rattle.std.proofs.lemmas.Option.{same_Some, slice_get-map}
 use Rattle.list_laws.proofs.Members.{at_front}
-use Rattle.nest_ways.proofs.KeptLaws.{port_is}
+use Rattle.nest_names.proofs.SameSpots.{port_is}
 use Rattle.sub_flat.proofs.samples.made_at.Goals as goal
 
 pub returns-then-same_port : goal.returns-then-same_port

@@ -18,8 +18,8 @@ loop-place-preserved c =
     ap (λ those. slice_get those place) (sym c.as_slice-word-items.ensures) ∙ slice_get-get_or words place none c.loop-place-test.true in
     let sum = c.in-Some-checked_add.ensures in
     let far : there ≡ c.in-Some.ahead + place = omega (arith, sum) in
-    within_next ones others place there c.in-Some.ahead one c.word_at.result at far (c.is_within.ensures c.if-not-is_within.false)
-    (λ bit is. subst (λ those. HasAt those there bit) c.as_slice.ensures (c.word_at.ensures bit is)) c.loop-place.invariant
+    within_next ones others place there c.in-Some.ahead one c.word_at.result at far (c.is_within.ensures.0 c.if-not-is_within.false)
+    (λ bit is. subst (λ those. HasAt those there bit) c.as_slice.ensures ((c.word_at.ensures bit).0 is)) c.loop-place.invariant
 
 pub returns : goal.returns
 returns c told =

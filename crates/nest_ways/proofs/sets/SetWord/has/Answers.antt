@@ -1,7 +1,15 @@
 use Rattle.std.proofs.Common.{arith, tests}
 use Rattle.std.proofs.lemmas.Nat.{one_shl, pow_pos}
-use Rattle.std.proofs.lemmas.Nat.Bits.{and_pow}
+use Rattle.std.proofs.lemmas.Nat.Bits.{and_pow, bit_at_above}
 use Rattle.nest_ways.proofs.sets.SetWord.has.Goals as goal
+
+pub returns-then-number-ge-WORD_BITS : goal.returns-then-number-ge-WORD_BITS
+returns-then-number-ge-WORD_BITS c =
+    let within = c.if-number-ge-WORD_BITS.true in
+    let none = bit_at_above c.args.self.bits 64 c.args.number (omega (arith, c.well_formed)) (omega (arith, within)) in (
+      λ no. absurd (cc),
+      λ is. absurd (omega (arith, is, none)),
+    )
 
 pub returns : goal.returns
 returns c =

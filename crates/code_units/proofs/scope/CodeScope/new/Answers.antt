@@ -1,6 +1,6 @@
 use Rattle.std.proofs.Common.{rules}
 use Rattle.code_units.proofs.ScopeLaws.{scope_made}
-use Rattle.code_units.proofs.scope.Scope.new.Goals as goal
+use Rattle.code_units.proofs.scope.CodeScope.new.Goals as goal
 
 pub returns : goal.returns
 returns c =
