@@ -4,6 +4,7 @@ use Rattle.std.proofs.Common.{subst, ◌∙◌, inl, inr, arith}
 use Rattle.std.specs.Prelude.{IfSome, Vec}
 use Rattle.std.specs.declared.alloc.Global.{Global}
 use Rattle.std.proofs.lemmas.Option.{same_Some}
+use Rattle.guess_board.specs.declared.guesses.Policy.TheVariants.{Hold}
 use Rattle.spec_core.proofs.ReplayLaws.{counted_once_lem}
 use Rattle.text_accept.specs.Accepting.{IsRefusedAt}
 use Rattle.text_accept.proofs.Acceptance.{judged_once}
@@ -100,7 +101,7 @@ replays_same : (asked : Replaying) (system : System) → IsWhole system → (one
 replays_same asked system whole one other a b =
     a.is
     ∙ ap (λ counts. with_counts counts a.run)
-    (counted_once_lem (planned system) asked.seed asked.workers a.counts b.counts (can_replay_of system whole) a.replayed b.replayed)
+    (counted_once_lem (planned system) 4 Hold asked.seed asked.workers a.counts b.counts (can_replay_of system whole) a.replayed b.replayed)
     ∙ ap (with_counts b.counts) (traces_same system whole a.run b.run a.tells b.tells)
     ∙ sym b.is
 

@@ -2,11 +2,8 @@
 use Rattle.std.specs.Prelude.{Vec}
 use Rattle.std.specs.declared.alloc.Global.{Global}
 use Rattle.std.proofs.Common.{◌≡◌, ◌⊎◌, ◌<◌, ◌≤◌, ℕ, List, length, Ok, Err, Some, refl, sym, ap, subst, ◌∙◌, inl, inr, arith}
-use Rattle.std.proofs.lemmas.List.{length-map}
 use Rattle.std.proofs.lemmas.Option.{same_Some}
-use Rattle.std.proofs.lemmas.Slice.Zip.{AllZip-long}
-use Rattle.nest_runs.proofs.TextLaws.{lines_long}
-use Rattle.nest_text.specs.Nests.{IsGroupOf, IsNestOf, RefusesNest, groups_of}
+use Rattle.nest_text.specs.Nests.{IsNestOf, RefusesNest}
 use Rattle.nest_text.specs.declared.nest.Nest.{Nest}
 use Rattle.nest_text.proofs.NestsThere.{nested_once}
 use Rattle.nest_names.specs.Flattening.{flat_of}

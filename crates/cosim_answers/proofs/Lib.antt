@@ -6,6 +6,7 @@ pub mod MakingLaws
 pub mod NodesLaws
 pub mod OutputNames
 pub mod PipelineLaws
+pub mod PlainRests
 pub mod ReplayLaws
 pub mod ResumeLaws
 pub mod RunLaws

@@ -1,21 +1,30 @@
 -- What holds of the answers of `nodes`, and the result of the command, as an answer for its text.
 use Rattle.std.specs.Io.KnownBytes.{Appends}
 use Rattle.std.proofs.Common.{◌≡◌, ◌⊎◌, ◌+◌, ◌<◌, ◌≤◌, ℕ, List, [], ◌∷◌, ◌++◌, map, length, Option, Some, None, Result, Ok, Err, refl, sym, ap, subst, ◌∙◌, inl, inr}
-use Rattle.std.proofs.Common.{arith, length-append}
+use Rattle.std.proofs.Common.{arith, length-append, zero, suc, take, Bool, true, false, if◌then◌else◌}
+use Rattle.std.specs.Prelude.{is_some}
+use Rattle.std.proofs.lemmas.List.{take_all}
+use Rattle.event_csv.specs.EventText.{event_text}
+use Rattle.event_runs.specs.EventRests.{IsReadFrom}
+use Rattle.event_runs.specs.EventRuns.{event_members_of, event_run_of}
+use Rattle.event_runs.specs.EventTrace.{EventStand, IsEventTrace, event_rows_of}
+use Rattle.event_runs.specs.Readings.{read_end, read_stand}
+use Rattle.event_runs.proofs.RestLaws.{stands_told}
+use Rattle.link_laws.specs.Nodes.{Progress}
+use Rattle.link_laws.specs.Pairs.{Pair}
 use Rattle.std.proofs.lemmas.List.{length-map}
 use Rattle.std.specs.List.{flat_map}
-use Rattle.link_nodes.proofs.RunLaws.{begins_none}
 use Rattle.cosim_io.specs.Pieces.{AppendsPrefix}
-use Rattle.cosim_io.proofs.PieceLemmas.{AppendsPrefix-nil, AppendsPrefix-whole}
+use Rattle.cosim_io.proofs.PieceLemmas.{AppendsPrefix-whole}
 use Rattle.link_nodes.specs.Rounds.{pair_after}
 use Rattle.link_nodes.specs.Shown.{BeginsRounds, ShowsRounds, lines_shown, told_of}
 use Rattle.link_nodes.specs.declared.run.Nodes.{Nodes as Told}
 use Rattle.trace_plan.specs.Plans.{Planned}
-use Rattle.trace_rows.specs.Lines.{header_of}
+use Rattle.trace_rows.specs.Lines.{header_of, lines_of}
 use Rattle.unit_tree.specs.Compositions.{Composition, Member, run_of}
 use Rattle.unit_tree.specs.Ports.{places_needed}
 use Rattle.unit_tree.specs.Routes.{routes_of}
-use Rattle.unit_tree.specs.Trace.{IsTrace, Stand}
+use Rattle.unit_tree.specs.Trace.{IsTrace, Stand, rows_of}
 use Rattle.unit_tree.specs.declared.ending.Ending.{Ending}
 use Rattle.unit_tree.specs.declared.system.System.{System}
 use Rattle.unit_tree.specs.declared.unit.Output.{Output}
@@ -33,6 +42,7 @@ use Rattle.cosim_answers.specs.Answer.{Answers}
 use Rattle.cosim_answers.specs.NodesAnswers.{IsTooLargeForNodes, TellsNodes, node_status, nodes_answer, nodes_limit, outputs_run, size_for_nodes, told_notes}
 use Rattle.cosim_answers.specs.Serving.{IsAccepted, IsUnaccepted, RunsNodes, TellsRounds}
 use Rattle.cosim_answers.proofs.Lawful.{AnswersOrBreaks, agree_as_same, at_most_or_above}
+use Rattle.cosim_answers.proofs.PlainRests.{text_shown}
 use Rattle.cosim_answers.proofs.SavedLaws.{has_one_trace}
 use Rattle.cosim_answers.proofs.TraceLaws.{IsWhole, is_end, whole_of}
 
@@ -56,6 +66,52 @@ as_many (member ∷ members) =
 pub outputs_counted : (run : Composition) → length (routes_of run).outputs ≡ length (outputs_run run)
 outputs_counted run = count_is run ∙ as_many run.members
 
+-- ---- The answer by the stands of the plain form
+
+-- The header and the rows of these stands of the plain form that node 0 has committed, and the progress of both nodes.
+abbrev pub plain_nodes : System → Pair → List Stand → Answer
+plain_nodes system pair stands = record {
+  out = header_of system ++ lines_shown (planned system) pair.first stands;
+  notes = told_notes system (told_of pair);
+  status = node_status pair.first.ended;
+}
+
+module _ (system : System) (whole : IsWhole system) (stands : List Stand) (ending : Ending) (trace : IsTrace (run_of system) stands ending) where
+  read_from : IsReadFrom system stands ending
+  read_from = stands_told system whole.ranged whole.well_formed whole.ordered stands ending trace
+
+  abbrev read : List Stand → List EventStand
+  read = map (read_stand (event_members_of system))
+
+  text_of : (count : ℕ) → header_of system ++ lines_of system (rows_of (run_of system) (take count stands))
+      ≡ event_text system (event_rows_of (event_run_of system) (read (take count stands)))
+  text_of count =
+      text_shown system whole (rows_of (run_of system) (take count stands)) (read_from.shape count) ∙ ap (event_text system) (sym (read_from.rows count))
+
+  take_read : (count : ℕ) (some : List Stand) → read (take count some) ≡ take count (read some)
+  take_read zero some = refl
+  take_read (suc count) [] = refl
+  take_read (suc count) (one ∷ some) = ap (λ rest. read_stand (event_members_of system) one ∷ rest) (take_read count some)
+
+  text_committed : (node : Progress) (all : Bool)
+      → header_of system ++ lines_of system (rows_of (run_of system) (if all then stands else take node.at.number stands))
+      ≡ event_text system (event_rows_of (event_run_of system) (if all then read stands else take node.at.number (read stands)))
+  text_committed node true =
+      subst (λ (some : List Stand). header_of system ++ lines_of system (rows_of (run_of system) some)
+      ≡ event_text system (event_rows_of (event_run_of system) (read some))) (take_all (length stands) stands (omega arith)) (text_of (length stands))
+  text_committed node false =
+      text_of node.at.number ∙ ap (λ (some : List EventStand). event_text system (event_rows_of (event_run_of system) some)) (take_read node.at.number stands)
+
+  -- It is the answer by the stands of the system.
+  pub nodes_are : (pair : Pair) → plain_nodes system pair stands ≡ nodes_answer system pair (read stands)
+  nodes_are pair =
+      ap (λ out. record { out = out; notes = told_notes system (told_of pair); status = node_status pair.first.ended })
+      (text_committed pair.first (is_some pair.first.ended))
+
+  -- The stands of the system are read from those of the plain form.
+  pub stands_are : (others : List EventStand) (end : Ending) → IsEventTrace (event_run_of system) others end → others ≡ read stands
+  stands_are others end is = (read_from.is_only others end is).0
+
 -- ---- Each system has one answer, or is too large
 
 pub nodes_same : (asked : Splitting) (system : System) → IsWhole system → (one other : Answer) → TellsNodes asked system one → TellsNodes asked system other
@@ -64,7 +120,8 @@ nodes_same asked system whole one other a b =
     let trace = has_one_trace system whole in
     a.is
     ∙ ap (nodes_answer system (pair_after (run_of system) asked.seed asked.rounds))
-    ((trace.is_only a.stands a.ending a.trace).0 ∙ sym (trace.is_only b.stands b.ending b.trace).0)
+    (stands_are system whole trace.stands trace.ending trace.is_trace a.stands a.ending a.trace
+    ∙ sym (stands_are system whole trace.stands trace.ending trace.is_trace b.stands b.ending b.trace))
     ∙ sym b.is
 
 node_ends : (ended : Option Ending) → IsEndOfWork (node_status ended)
@@ -87,9 +144,11 @@ nodes_answer_systems asked = record {
         → ((answer : Answer) × TellsNodes asked system answer) ⊎ IsTooLargeForNodes system
     by system whole (inl fits) =
         let trace = has_one_trace system whole in
+        let told = stands_told system whole.ranged whole.well_formed whole.ordered trace.stands trace.ending trace.is_trace in
+        let stands = map (read_stand (event_members_of system)) trace.stands in
         inl (
-          nodes_answer system (pair_after (run_of system) asked.seed asked.rounds) trace.stands,
-          record { fits = fits; stands = trace.stands; ending = trace.ending; trace = trace.is_trace; is = refl },
+          nodes_answer system (pair_after (run_of system) asked.seed asked.rounds) stands,
+          record { fits = fits; stands = stands; ending = read_end system trace.ending; trace = told.trace; is = refl },
         )
     by system whole (inr large) = inr large
 
@@ -129,9 +188,12 @@ module _ (asked : Splitting) (text : List ℕ) (plan : Planned) (accepted : IsAc
   )
 
   module _ (fits : size_for_nodes plan.run ≤ nodes_limit) where
-    -- The answer by these stands.
+    is_whole : IsWhole plan.system
+    is_whole = whole_of text plan.system accepted.0 accepted.1
+
+    -- The answer by these stands of the plain form.
     by_stands : (stands : List Stand) (ending : Ending) → IsTrace (run_of plan.system) stands ending
-        → Answers (Nodes asked) text (nodes_answer plan.system (pair_after (run_of plan.system) asked.seed asked.rounds) stands)
+        → Answers (Nodes asked) text (plain_nodes plan.system (pair_after (run_of plan.system) asked.seed asked.rounds) stands)
     by_stands stands ending trace =
         inr (record {
           system = plan.system;
@@ -139,10 +201,10 @@ module _ (asked : Splitting) (text : List ℕ) (plan : Planned) (accepted : IsAc
           accepted = accepted.1;
           is = record {
             fits = subst (λ run. size_for_nodes run ≤ nodes_limit) composed fits;
-            stands = stands;
-            ending = ending;
-            trace = trace;
-            is = refl;
+            stands = map (read_stand (event_members_of plan.system)) stands;
+            ending = read_end plan.system ending;
+            trace = (stands_told plan.system is_whole.ranged is_whole.well_formed is_whole.ordered stands ending trace).trace;
+            is = nodes_are plan.system is_whole stands ending trace (pair_after (run_of plan.system) asked.seed asked.rounds);
           };
         })
 
@@ -156,7 +218,7 @@ module _ (asked : Splitting) (text : List ℕ) (plan : Planned) (accepted : IsAc
     begins_answer out out' begins =
         let trace = has_one_trace plan.system (whole_of text plan.system accepted.0 accepted.1) in
         inr (
-          nodes_answer plan.system (pair_after (run_of plan.system) asked.seed asked.rounds) trace.stands,
+          plain_nodes plan.system (pair_after (run_of plan.system) asked.seed asked.rounds) trace.stands,
           by_stands trace.stands trace.ending trace.is_trace,
           subst (AppendsPrefix out.bytes out'.bytes) (shown_is trace.stands)
               (begins.begins trace.stands trace.ending
@@ -172,7 +234,7 @@ module _ (asked : Splitting) (text : List ℕ) (plan : Planned) (accepted : IsAc
 
     module _ (out out' : Stream) (nodes : Told) (shows : ShowsRounds plan asked.seed asked.rounds out.bytes out'.bytes nodes) where
       abbrev answer : Answer
-      answer = nodes_answer plan.system (pair_after (run_of plan.system) asked.seed asked.rounds) shows.stands
+      answer = plain_nodes plan.system (pair_after (run_of plan.system) asked.seed asked.rounds) shows.stands
 
       is_answer : Answers (Nodes asked) text answer
       is_answer = by_stands shows.stands shows.ending (subst (λ run. IsTrace run shows.stands shows.ending) composed shows.trace)

@@ -7,6 +7,9 @@ use Rattle.command_line.specs.Commands.{verify_limit}
 use Rattle.command_line.specs.Generations.{Asked, CanGive, system_asked}
 use Rattle.command_line.specs.declared.commands.Command.TheVariants.{Run}
 use Rattle.command_line.specs.declared.running.Running.{Running}
+use Rattle.cosim_answers.specs.NodesAnswers.{nodes_answer}
+use Rattle.cosim_answers.proofs.NodesLaws.{nodes_are, plain_nodes, stands_are}
+use Rattle.cosim_answers.proofs.SavedLaws.{has_one_trace}
 use Rattle.cosim_answers.proofs.CommandLaws.{traces_same}
 use Rattle.cosim_answers.proofs.Lawful.{determined_within, lawful_within}
 use Rattle.cosim_answers.proofs.RunLaws.{text_is, trace_told}
@@ -194,7 +197,7 @@ module _ (asked : Running) (text input : List ℕ) (run : Answer) (runs : Answer
   verified = record {
     within = short;
     serves = record {
-      front = text;
+      model = text;
       table = run.out;
       parted = parted;
       told = record {
@@ -314,16 +317,22 @@ nodes_print_a_prefix asked split text nodes run of runs =
     let whole = whole_of text system of.lines of.accepted in
     let tells = run_tells asked text system of.lines of.accepted run (inr runs) in
     let node = (pair_after (run_of system) split.seed split.rounds).first in
-    let stands = of.is.stands in
+    let plain = has_one_trace system whole in
+    let stands = plain.stands in
+    let pair = pair_after (run_of system) split.seed split.rounds in
+    let answer_is : nodes ≡ plain_nodes system pair stands =
+    of.is.is
+    ∙ ap (nodes_answer system pair) (stands_are system whole stands plain.ending plain.is_trace of.is.stands of.is.ending of.is.trace)
+    ∙ sym (nodes_are system whole stands plain.ending plain.is_trace pair) in
     let rows = rows_of (run_of system) stands in
-    let trace : IsTraceOf system rows (last_point stands) of.is.ending =
-    record { stands = stands; trace = of.is.trace; rows_are = refl; last_is = refl } in
+    let trace : IsTraceOf system rows (last_point stands) plain.ending =
+    record { stands = stands; trace = plain.is_trace; rows_are = refl; last_is = refl } in
     let cut = committed_first (run_of system) node stands in
     let shown = rows_of (run_of system) (committed node stands) in (
       lines_of system cut.0,
-      (by_rows asked system whole run tells rows (last_point stands) of.is.ending trace).0
+      (by_rows asked system whole run tells rows (last_point stands) plain.ending trace).0
           ∙ ap (λ rows. header_of system ++ lines_of system rows) cut.1
           ∙ ap (λ lines. header_of system ++ lines) (lines_more system shown cut.0)
           ∙ sym (append_assoc (header_of system) (lines_of system shown) (lines_of system cut.0))
-          ∙ ap (λ bytes. bytes ++ lines_of system cut.0) (ap (λ (x : Answer). x.out) (sym of.is.is)),
+          ∙ ap (λ bytes. bytes ++ lines_of system cut.0) (ap (λ (x : Answer). x.out) (sym answer_is)),
     )

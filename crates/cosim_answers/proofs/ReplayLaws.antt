@@ -1,5 +1,5 @@
 -- The output and the result of a replay, as the answer for its text.
-use Rattle.std.proofs.Common.{◌≡◌, ◌∙◌, ℕ, List, Result, Ok, Err, refl, sym, ap, subst, inl, inr, [], ◌∷◌, ◌++◌}
+use Rattle.std.proofs.Common.{◌≡◌, ◌∙◌, ℕ, List, Result, Ok, Err, refl, sym, ap, subst, inl, inr, [], ◌∷◌, ◌++◌, arith}
 use Rattle.std.specs.Io.KnownBytes.{Appends}
 use Rattle.cosim_call.specs.Calls.{Stream}
 use Rattle.cosim_call.specs.Coming.{Begins, Serves}
@@ -9,6 +9,7 @@ use Rattle.cosim_call.specs.declared.coming.Stopped.TheVariants as stopped
 use Rattle.cosim_io.specs.Pieces.{AppendsPrefix}
 use Rattle.cosim_io.proofs.PieceLemmas.{AppendsPrefix-whole}
 use Rattle.event_runs.specs.Readings.{read_end, read_rows}
+use Rattle.guess_board.specs.declared.guesses.Policy.TheVariants.{Hold}
 use Rattle.spec_core.specs.Replays.{CanReplay, IsReplayed}
 use Rattle.spec_core.specs.declared.counts.Counts.{Counts}
 use Rattle.spec_core.proofs.AcceptedSystems.{can_replay}
@@ -38,7 +39,7 @@ can_replay_of system whole = can_replay system whole.ranged whole.well_formed wh
 
 pub counts_there : (asked : Replaying) (system : System) → IsWhole system
     → (counts : Counts) × IsReplayed (planned system) asked.seed asked.workers counts
-counts_there asked system whole = every_seed_lem (planned system) asked.seed asked.workers (can_replay_of system whole)
+counts_there asked system whole = every_seed_lem (planned system) 4 Hold asked.seed asked.workers (can_replay_of system whole) (omega arith)
 
 -- The run of a plan that was replayed is that of the plain form of its system.
 plan_is : (plan : Planned) (seed workers : ℕ) (counts : Counts) → IsReplayed plan seed workers counts → plan ≡ planned plan.system

@@ -27,9 +27,10 @@ use Rattle.unit_tree.specs.Trace.{GoesOnFrom, IsPositionOf, Row, Stand, rows_of}
 use Rattle.unit_tree.specs.declared.ending.Ending.{Ending}
 use Rattle.cosim_answers.specs.Accepted.{planned}
 use Rattle.cosim_answers.specs.Answer.{Answers}
-use Rattle.cosim_answers.specs.SavedAnswers.{ResumeRefuses, SavesIn, TellsRest, resumed_answer, text_behind}
+use Rattle.cosim_answers.specs.SavedAnswers.{ResumeRefuses, SavesIn, TellsRest, text_behind}
 use Rattle.cosim_answers.specs.Serving.{FindsSaved, GoesOn, IsAccepted, IsRefusedBehind, MakesSaved, OpensSaved, TellsResumed}
 use Rattle.cosim_answers.proofs.MakingLaws.{made}
+use Rattle.cosim_answers.proofs.PlainRests.{plain_answer, plain_position, position_told, rest_told}
 use Rattle.cosim_answers.proofs.SavedLaws.{rest_there}
 use Rattle.cosim_answers.proofs.TraceLaws.{IsWhole, is_end, whole_of}
 
@@ -105,7 +106,7 @@ module _ (text : List ℕ) (saved : Saved) (plan : Planned) (within : length tex
         let stands = rest.1.rest.stands in
         inr (
           rest.0,
-          by_rest rest.0 rest.1,
+          by_rest rest.0 (rest_told plan.system is_whole r.opened fits.position.has_words rest.0 rest.1),
           subst (AppendsPrefix out.bytes out'.bytes)
               (ap (λ run. lines_of plan.system (rows_of run stands)) composed
               ∙ ap (lines_of plan.system) (sym rest.1.rest.rows_are)
@@ -126,10 +127,10 @@ module _ (text : List ℕ) (saved : Saved) (plan : Planned) (within : length tex
       rows = rows_of (run_of plan.system) reports.stands
 
       abbrev answer : Answer
-      answer = resumed_answer plan.system rows report.last report.outcome
+      answer = plain_answer plan.system rows report.last report.outcome
 
       tells : TellsRest plan.system r.opened answer
-      tells = record {
+      tells = rest_told plan.system is_whole r.opened fits.position.has_words answer (record {
         rows = rows;
         last = report.last;
         ending = report.outcome;
@@ -140,16 +141,16 @@ module _ (text : List ℕ) (saved : Saved) (plan : Planned) (within : length tex
           last_is = reports.last;
         };
         is = refl;
-      }
+      })
 
       put : Appends out.bytes out'.bytes answer.out
       put =
           subst (λ run. Appends out.bytes out'.bytes (lines_of plan.system (rows_of run reports.stands))) composed reports.out
 
     -- A run that came to its end, and is reported.
-    pub rest_told : (out out' : Stream) (report : Report) (came : Result Served Stopped) → GoesOn plan r.opened out out' (Ok report)
+    pub rest_answered : (out out' : Stream) (report : Report) (came : Result Served Stopped) → GoesOn plan r.opened out out' (Ok report)
         → TellsResumed plan.system report came → Owes text out out' came
-    rest_told out out' report (Ok served) (reports, same) (status_is, notes_is) = (
+    rest_answered out out' report (Ok served) (reports, same) (status_is, notes_is) = (
       record {
         answer = answer out out' report reports;
         is = by_rest (answer out out' report reports) (tells out out' report reports);
@@ -160,7 +161,7 @@ module _ (text : List ℕ) (saved : Saved) (plan : Planned) (within : length tex
       },
       same,
     )
-    rest_told out out' report (Err why) (reports, same) is =
+    rest_answered out out' report (Err why) (reports, same) is =
         subst (λ (one : Stopped). Owes text out out' (Err one)) (sym is) (
           inr (
             answer out out' report reports,
@@ -182,7 +183,8 @@ saved_made row text plan accepted whole asked is (Ok bytes) (at, of, same) =
       accepted = accepted.1;
       is = record {
         at = at;
-        is_position = subst (λ (p : Planned). IsPositionOf p.run asked.row at) whole (subst (λ n. IsPositionOf plan.run n at) (sym is) of);
+        is_position = position_told plan.system (whole_of text plan.system accepted.0 accepted.1) asked.row at
+            (subst (λ (p : Planned). IsPositionOf p.run asked.row at) whole (subst (λ n. IsPositionOf plan.run n at) (sym is) of));
         is = refl;
       };
     }))
@@ -194,7 +196,8 @@ saved_made row text plan accepted whole asked is (Err (stopped.Refused line rule
         system = plan.system;
         lines = accepted.0;
         accepted = accepted.1;
-        breaks = subst (λ (p : Planned). HasNoPosition p.run asked.row) whole (subst (HasNoPosition plan.run) (sym is) none);
+        breaks = λ place of. subst (λ (p : Planned). HasNoPosition p.run asked.row) whole (subst (HasNoPosition plan.run) (sym is) none) place
+            (plain_position plan.system (whole_of text plan.system accepted.0 accepted.1) asked.row place of);
         at = at;
         by = by;
       });

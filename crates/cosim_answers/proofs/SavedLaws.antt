@@ -21,8 +21,9 @@ use Rattle.cosim_call.specs.Answers.{Answer, IsEndOfWork, piece_answer}
 use Rattle.command_line.specs.Commands.{saved_limit}
 use Rattle.cosim_answers.specs.Accepted.{planned}
 use Rattle.cosim_answers.specs.SavedAnswers.{AnswersResume, LacksMatch, LacksPosition, RefusesBehind, ResumeRefuses, SavesIn, SavesNone, TellsPosition, TellsRest}
-use Rattle.cosim_answers.specs.SavedAnswers.{lines_before, resumed_answer, text_behind}
+use Rattle.cosim_answers.specs.SavedAnswers.{lines_before, text_behind}
 use Rattle.cosim_answers.proofs.Lawful.{AnswersOrBreaks, HasNoOther, IsLawful, agree_as_same, at_most_or_above}
+use Rattle.cosim_answers.proofs.PlainRests.{TellsPlainRest, plain_answer, plain_position, position_told, rest_plain, rest_told}
 use Rattle.cosim_answers.proofs.TraceLaws.{IsWhole, is_end, whole_of}
 
 -- ---- Runs of accepted systems
@@ -42,32 +43,35 @@ has_one_rest system saved at whole fits =
 pub saves_same : (row : ℕ) (system : System) → IsWhole system → (one other : Answer) → TellsPosition row system one → TellsPosition row system other
     → one ≡ other
 saves_same row system whole one other a b =
-    let same = (one_position (run_of system) row (has_one_trace system whole)).once a.at b.at a.is_position b.is_position in
+    let same = (one_position (run_of system) row (has_one_trace system whole)).once a.at b.at (plain_position system whole row a.at a.is_position)
+    (plain_position system whole row b.at b.is_position) in
     a.is ∙ ap (λ at. piece_answer (saved_text system at)) same ∙ sym b.is
 
 pub saves_answer : (row : ℕ) → AnswersOrBreaks (TellsPosition row) (LacksPosition row)
 saves_answer row = record {
-  some = λ system whole. by system (one_position (run_of system) row (has_one_trace system whole)).some;
+  some = λ system whole. by system whole (one_position (run_of system) row (has_one_trace system whole)).some;
   not_both = λ system answer tells none. none tells.at tells.is_position;
   agree = λ system whole one other a b. agree_as_same one other (saves_same row system whole one other a b);
   ends = λ system answer tells. subst (λ (a : Answer). IsEndOfWork a.status) (sym tells.is) tt;
 }
   where
-    by : (system : System) → ((at : Position) × IsPositionOf (run_of system) row at) ⊎ LacksPosition row system
+    by : (system : System) → IsWhole system
+        → ((at : Position) × IsPositionOf (run_of system) row at) ⊎ ((at : Position) → IsPositionOf (run_of system) row at → ⊥)
         → ((answer : Answer) × TellsPosition row system answer) ⊎ LacksPosition row system
-    by system (inl (at, is)) = inl (piece_answer (saved_text system at), record { at = at; is_position = is; is = refl })
-    by system (inr none) = inr none
+    by system whole (inl (at, is)) =
+        inl (piece_answer (saved_text system at), record { at = at; is_position = position_told system whole row at is; is = refl })
+    by system whole (inr none) = inr (λ at of. none at (plain_position system whole row at of))
 
 -- ---- `resume`
 
--- The rest that exists, as an answer.
+-- The rest of the plain form that exists, as an answer.
 pub rest_there : (system : System) (saved : Saved) (at : Position) → IsWhole system → FitsSaved (planned system) saved at
-    → (answer : Answer) × TellsRest system at answer
+    → (answer : Answer) × TellsPlainRest system at answer
 rest_there system saved at whole fits =
     let one = has_one_rest system saved at whole fits in
     let rows = rows_of (run_of system) one.stands in
     let last = last_point one.stands in (
-      resumed_answer system rows last one.ending,
+      plain_answer system rows last one.ending,
       record {
         rows = rows;
         last = last;
@@ -77,19 +81,36 @@ rest_there system saved at whole fits =
       },
     )
 
-rests_same : (system : System) (saved : Saved) (at : Position) → IsWhole system → FitsSaved (planned system) saved at → (one other : Answer)
-    → TellsRest system at one → TellsRest system at other → one ≡ other
-rests_same system saved at whole fits one other a b =
+-- It is the rest of the system.
+pub own_rest_there : (system : System) (saved : Saved) (at : Position) → IsWhole system → FitsSaved (planned system) saved at
+    → (answer : Answer) × TellsRest system at answer
+own_rest_there system saved at whole fits =
+    let rest = rest_there system saved at whole fits in (rest.0, rest_told system whole at fits.position.has_words rest.0 rest.1)
+
+-- Each rest of the system is that of the plain form.
+pub as_plain : (system : System) (saved : Saved) (at : Position) → IsWhole system → FitsSaved (planned system) saved at → (answer : Answer)
+    → TellsRest system at answer → TellsPlainRest system at answer
+as_plain system saved at whole fits answer tells =
+    let rest = rest_there system saved at whole fits in rest_plain system whole at fits.position.has_words rest.0 rest.1 answer tells
+
+plain_same : (system : System) (saved : Saved) (at : Position) → IsWhole system → FitsSaved (planned system) saved at → (one other : Answer)
+    → TellsPlainRest system at one → TellsPlainRest system at other → one ≡ other
+plain_same system saved at whole fits one other a b =
     let only = (has_one_rest system saved at whole fits).is_only in
     let first = only a.rest.stands a.ending a.rest.goes_on in
     let second = only b.rest.stands b.ending b.rest.goes_on in
     let stands = first.0 ∙ sym second.0 in
     a.is
-    ∙ ap (λ rows. resumed_answer system rows a.last a.ending)
+    ∙ ap (λ rows. plain_answer system rows a.last a.ending)
     (a.rest.rows_are ∙ ap (rows_of (run_of system)) stands ∙ sym b.rest.rows_are)
-    ∙ ap (λ last. resumed_answer system b.rows last a.ending) (a.rest.last_is ∙ ap last_point stands ∙ sym b.rest.last_is)
-    ∙ ap (resumed_answer system b.rows b.last) (first.1 ∙ sym second.1)
+    ∙ ap (λ last. plain_answer system b.rows last a.ending) (a.rest.last_is ∙ ap last_point stands ∙ sym b.rest.last_is)
+    ∙ ap (plain_answer system b.rows b.last) (first.1 ∙ sym second.1)
     ∙ sym b.is
+
+rests_same : (system : System) (saved : Saved) (at : Position) → IsWhole system → FitsSaved (planned system) saved at → (one other : Answer)
+    → TellsRest system at one → TellsRest system at other → one ≡ other
+rests_same system saved at whole fits one other a b =
+    plain_same system saved at whole fits one other (as_plain system saved at whole fits one a) (as_plain system saved at whole fits other b)
 
 module _ (text : List ℕ) where
   same_saved : (one other : Saved) → IsSaved text one → IsSaved text other → one ≡ other
@@ -128,7 +149,7 @@ module _ (text : List ℕ) where
   by_fit : (saved : Saved) (system : System) → SavesIn text saved system
       → ((at : Position) × FitsSaved (planned system) saved at) ⊎ FitsNone (planned system) saved → Judged
   by_fit saved system in_text (inl (at, fits)) =
-      let rest = rest_there system saved at (whole_in saved system in_text) fits in
+      let rest = own_rest_there system saved at (whole_in saved system in_text) fits in
       inr (rest.0, record { saved = saved; system = system; saves = in_text; at = at; fits = fits; tells = rest.1 })
   by_fit saved system in_text (inr none) =
       inl (1, 33, inr (inr (inr (record { saved = saved; system = system; saves = in_text; none = none; at = refl; by = refl }))))

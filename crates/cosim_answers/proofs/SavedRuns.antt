@@ -39,7 +39,8 @@ use Rattle.cosim_answers.specs.SavedAnswers.{AnswersResume, AnswersSave, SavesIn
 use Rattle.cosim_answers.proofs.CommandLaws.{traces_same}
 use Rattle.cosim_answers.proofs.OutputNames.{ends_alike, same_status}
 use Rattle.cosim_answers.proofs.RunLaws.{text_is, trace_told}
-use Rattle.cosim_answers.proofs.SavedLaws.{resume_lawful, rest_there}
+use Rattle.cosim_answers.proofs.PlainRests.{TellsPlainRest, plain_position}
+use Rattle.cosim_answers.proofs.SavedLaws.{as_plain, own_rest_there, resume_lawful}
 use Rattle.cosim_answers.proofs.TraceLaws.{IsWhole, whole_of}
 
 -- ---- The text after the lines of a saved text
@@ -74,8 +75,14 @@ module _ (row : ℕ) (text : List ℕ) (saved resumed run : Answer) (of : Answer
   whole : IsWhole system
   whole = whole_of text system of.lines of.accepted
 
+  position : IsPositionOf (run_of system) row at
+  position = plain_position system whole row at of.is.is_position
+
+  fits : FitsSaved (planned system) (saved_of system at) at
+  fits = (can_be_resumed system row at whole.ranged whole.well_formed position).fits
+
   saves : IsSaved (saved_text system at) (saved_of system at)
-  saves = (can_be_resumed system row at whole.ranged whole.well_formed of.is.is_position).saved
+  saves = (can_be_resumed system row at whole.ranged whole.well_formed position).saved
 
   text_saved : saved.out ≡ saved_text system at
   text_saved = ap (λ (a : Answer). a.out) of.is.is
@@ -98,13 +105,13 @@ module _ (row : ℕ) (text : List ℕ) (saved resumed run : Answer) (of : Answer
   same_position =
       (fits_one_or_none (planned system) (saved_of system at)).once on.at at
       (subst (λ s. FitsSaved (planned system) s on.at) same_saved (subst (λ s. FitsSaved (planned s) on.saved on.at) same_system on.fits))
-      (can_be_resumed system row at whole.ranged whole.well_formed of.is.is_position).fits
+      fits
 
-  tells : TellsRest system at resumed
-  tells = subst (λ p. TellsRest system p resumed) same_position (subst (λ s. TellsRest s on.at resumed) same_system on.tells)
+  told : TellsRest system at resumed
+  told = subst (λ p. TellsRest system p resumed) same_position (subst (λ s. TellsRest s on.at resumed) same_system on.tells)
 
-  abbrev position : IsPositionOf (run_of system) row at
-  position = of.is.is_position
+  tells : TellsPlainRest system at resumed
+  tells = as_plain system (saved_of system at) at whole fits resumed told
 
   ends : EndsWithRest (run_of system) position.before (position.before ++ (position.here ∷ position.later)) position.ending tells.rows tells.last tells.ending
   ends =
@@ -170,7 +177,7 @@ module _ (row : ℕ) (text : List ℕ) (saved : Answer) (of : AnswersSave row te
   resumable : CanBeResumed of.system place
   resumable =
       let whole = whole_of text of.system of.lines of.accepted in
-      can_be_resumed of.system row place whole.ranged whole.well_formed of.is.is_position
+      can_be_resumed of.system row place whole.ranged whole.well_formed (plain_position of.system whole row place of.is.is_position)
 
   short : length saved.out ≤ saved_limit
   short =
@@ -192,12 +199,12 @@ module _ (row : ℕ) (text : List ℕ) (saved : Answer) (of : AnswersSave row te
   saves_in : SavesIn saved.out (saved_of of.system place) of.system
   saves_in = record { within = short; saves = saves_it; lines = canonical.0; accepted = canonical.1 }
 
-  rests : TellsRest of.system place (rest_there of.system (saved_of of.system place) place (whole_of text of.system of.lines of.accepted) resumable.fits).0
-  rests = (rest_there of.system (saved_of of.system place) place (whole_of text of.system of.lines of.accepted) resumable.fits).1
+  rests : TellsRest of.system place (own_rest_there of.system (saved_of of.system place) place (whole_of text of.system of.lines of.accepted) resumable.fits).0
+  rests = (own_rest_there of.system (saved_of of.system place) place (whole_of text of.system of.lines of.accepted) resumable.fits).1
 
   served : (answer : Answer) × AnswersResume saved.out answer
   served = (
-    (rest_there of.system (saved_of of.system place) place (whole_of text of.system of.lines of.accepted) resumable.fits).0,
+    (own_rest_there of.system (saved_of of.system place) place (whole_of text of.system of.lines of.accepted) resumable.fits).0,
     record { saved = saved_of of.system place; system = of.system; saves = saves_in; at = place; fits = resumable.fits; tells = rests },
   )
 

@@ -68,8 +68,8 @@ module _ (input : List ℕ) where
       → ((line : ℕ) × (rule : ℕ) × IsRefusedAt front line rule) ⊎ ((answer : Answer) × OnAccepted (TellsVerdict table) front answer)
       → JudgedTable input
   by_front front table parted (inl (line, rule, refused)) =
-      inl (line, rule, inr (record { front = front; table = table; parted = parted; refused = refused }))
-  by_front front table parted (inr (answer, told)) = inr (answer, record { front = front; table = table; parted = parted; told = told })
+      inl (line, rule, inr (record { model = front; table = table; parted = parted; refused = refused }))
+  by_front front table parted (inr (answer, told)) = inr (answer, record { model = front; table = table; parted = parted; told = told })
 
   by_parts : ((front : List ℕ) × (table : List ℕ) × IsParted input front table) ⊎ LacksTrace input → JudgedTable input
   by_parts (inl (front, table, parted)) =
@@ -81,23 +81,23 @@ module _ (input : List ℕ) where
 
   once : (line rule other third : ℕ) → RefusesTable input line rule → RefusesTable input other third → (line ≡ other) × (rule ≡ third)
   once line rule other third (inl a) (inl b) = (a.at ∙ sym b.at, a.by ∙ sym b.by)
-  once line rule other third (inl a) (inr b) = absurd ((parted_once input).not_both b.front b.table b.parted a.none)
-  once line rule other third (inr a) (inl b) = absurd ((parted_once input).not_both a.front a.table a.parted b.none)
+  once line rule other third (inl a) (inr b) = absurd ((parted_once input).not_both b.model b.table b.parted a.none)
+  once line rule other third (inr a) (inl b) = absurd ((parted_once input).not_both a.model a.table a.parted b.none)
   once line rule other third (inr a) (inr b) =
-      (judged_once b.front).one_refusal line rule other third
-      (subst (λ f. IsRefusedAt f line rule) (one_front a.front b.front a.table b.table a.parted b.parted) a.refused) b.refused
+      (judged_once b.model).one_refusal line rule other third
+      (subst (λ f. IsRefusedAt f line rule) (one_front a.model b.model a.table b.table a.parted b.parted) a.refused) b.refused
 
   never_both : (line rule : ℕ) (answer : Answer) → RefusesTable input line rule → AnswersTable input answer → ⊥
-  never_both line rule answer (inl a) answers = (parted_once input).not_both answers.front answers.table answers.parted a.none
+  never_both line rule answer (inl a) answers = (parted_once input).not_both answers.model answers.table answers.parted a.none
   never_both line rule answer (inr a) answers =
-      (judged_once answers.front).not_both answers.told.system answers.told.lines line rule answers.told.accepted
-      (subst (λ f. IsRefusedAt f line rule) (one_front a.front answers.front a.table answers.table a.parted answers.parted) a.refused)
+      (judged_once answers.model).not_both answers.told.system answers.told.lines line rule answers.told.accepted
+      (subst (λ f. IsRefusedAt f line rule) (one_front a.model answers.model a.table answers.table a.parted answers.parted) a.refused)
 
   answers_once : (one other : Answer) → AnswersTable input one → AnswersTable input other → one ≡ other
   answers_once one other a b =
-      let same = (parted_once input).only a.front b.front a.table b.table a.parted b.parted in
-      determined_on_accepted (TellsVerdict b.table) (verdicts_same b.table) b.front one other
-      (subst (λ t. OnAccepted (TellsVerdict t) b.front one) same.1 (subst (λ f. OnAccepted (TellsVerdict a.table) f one) same.0 a.told)) b.told
+      let same = (parted_once input).only a.model b.model a.table b.table a.parted b.parted in
+      determined_on_accepted (TellsVerdict b.table) (verdicts_same b.table) b.model one other
+      (subst (λ t. OnAccepted (TellsVerdict t) b.model one) same.1 (subst (λ f. OnAccepted (TellsVerdict a.table) f one) same.0 a.told)) b.told
 
 pub verdicts_once : HasNoOther AnswersTable
 verdicts_once input one other a b = answers_once input one other a b
@@ -186,7 +186,7 @@ module _ (input front table : List ℕ) (within : length input ≤ verify_limit)
       inl (record {
         line = line;
         rule = rule;
-        refused = inr (record { within = within; refused = inr (record { front = front; table = table; parted = parted; refused = refused }) });
+        refused = inr (record { within = within; refused = inr (record { model = front; table = table; parted = parted; refused = refused }) });
         is = refl;
       })
   front_refused stopped.NoMemory refused = tt
@@ -215,7 +215,7 @@ module _ (input front table : List ℕ) (within : length input ≤ verify_limit)
       (inr (record {
         within = within;
         serves = record {
-          front = front;
+          model = front;
           table = table;
           parted = parted;
           told = record { system = system; lines = lines; accepted = accepted; is = tells_verdict system (whole_of front system lines accepted) verdict is_verdict };

@@ -4,20 +4,20 @@
 --   rule 32   the text saves no position
 --   rule 33   a run of the system can be at no such position
 use Rattle.std.specs.Prelude.{◌≡◌, ◌⊎◌, ℕ, ◌+◌, ◌≤◌, List, drop, length}
+use Rattle.std.specs.List.{flat_map}
+use Rattle.event_csv.specs.EventText.{event_line}
+use Rattle.event_runs.specs.EventRests.{IsEventPositionOf, IsEventRest}
+use Rattle.event_runs.specs.EventTrace.{EventRow}
 use Rattle.command_line.specs.Commands.{saved_limit}
 use Rattle.cosim_answers.specs.Accepted.{OnAccepted, RefusesAlso, planned, status_of, traced_notes}
 use Rattle.cosim_answers.specs.Limits.{IsLongerThan}
-use Rattle.cosim_answers.specs.SourcePlaces.{source_end}
 use Rattle.cosim_call.specs.Answers.{Answer, piece_answer}
 use Rattle.save_point.specs.SavedTexts.{BreaksAtLine, IsSaved, saved_text}
-use Rattle.save_point.specs.Saving.{FitsNone, FitsSaved, HasNoPosition}
+use Rattle.save_point.specs.Saving.{FitsNone, FitsSaved}
 use Rattle.save_point.specs.declared.reading.Saved.{Saved}
 use Rattle.super_time.specs.declared.point.Point.{Point}
 use Rattle.text_accept.specs.Accepting.{IsAcceptedAs, IsRefusedAt}
-use Rattle.trace_rows.specs.Lines.{lines_of}
-use Rattle.unit_tree.specs.Compositions.{run_of}
 use Rattle.unit_tree.specs.Successor.{Position}
-use Rattle.unit_tree.specs.Trace.{IsPositionOf, IsRest, Row}
 use Rattle.unit_tree.specs.declared.ending.Ending.{Ending}
 use Rattle.unit_tree.specs.declared.system.System.{System}
 
@@ -26,7 +26,7 @@ use Rattle.unit_tree.specs.declared.system.System.{System}
 -- The answer is the saved text of the position with this number in the system's trace.
 pub record TellsPosition (row : ℕ) (system : System) (answer : Answer) : Type 0 where
   pub at : Position
-  pub is_position : IsPositionOf (run_of system) row at
+  pub is_position : IsEventPositionOf system row at
   pub is : answer ≡ piece_answer (saved_text system at)
 
 abbrev pub AnswersSave : ℕ → List ℕ → Answer → Type 0
@@ -34,7 +34,7 @@ AnswersSave row = OnAccepted (TellsPosition row)
 
 -- The trace of the system has no position with this number: rule 31.
 abbrev pub LacksPosition : ℕ → System → Type 0
-LacksPosition row system = HasNoPosition (run_of system) row
+LacksPosition row system = (at : Position) → IsEventPositionOf system row at → ⊥
 
 abbrev pub SaveRefuses : ℕ → List ℕ → ℕ → ℕ → Type 0
 SaveRefuses row = RefusesAlso (LacksPosition row) 31
@@ -55,20 +55,20 @@ pub record SavesIn (text : List ℕ) (saved : Saved) (system : System) : Type 0 
   pub lines : List ℕ
   pub accepted : IsAcceptedAs (text_behind text saved) system lines
 
--- The lines of rows, without a header, and how and where the run of the plain form ended.
-abbrev pub resumed_answer : System → List Row → Point → Ending → Answer
+-- The lines of rows, without a header, and how and where the run ended.
+abbrev pub resumed_answer : System → List EventRow → Point → Ending → Answer
 resumed_answer system rows last ending = record {
-  out = lines_of system rows;
-  notes = traced_notes system (source_end system ending) last;
+  out = flat_map (event_line system) rows;
+  notes = traced_notes system ending last;
   status = status_of ending;
 }
 
 -- The answer is the rest of the position.
 pub record TellsRest (system : System) (at : Position) (answer : Answer) : Type 0 where
-  pub rows : List Row
+  pub rows : List EventRow
   pub last : Point
   pub ending : Ending
-  pub rest : IsRest (run_of system) at rows last ending
+  pub rest : IsEventRest system at rows last ending
   pub is : answer ≡ resumed_answer system rows last ending
 
 -- The answer is the rest of the position that a text saves.

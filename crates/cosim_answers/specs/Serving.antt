@@ -146,7 +146,7 @@ TellsResumed system report (Err why) = why ≡ stopped.NoMemory
 
 -- The input was cut into a text and the table after it, or it has no line between them.
 abbrev pub FindsParts : List ℕ → Result Parted Stopped → Type 0
-FindsParts input (Ok parts) = IsParted input parts.front.now parts.table.now
+FindsParts input (Ok parts) = IsParted input parts.model.now parts.table.now
 FindsParts input (Err (stopped.Refused line rule)) = LacksTable input line rule
 FindsParts input (Err _) = ⊥
 

@@ -41,10 +41,10 @@ pub record TellsVerdict (table : List ℕ) (system : System) (answer : Answer) :
 
 -- The input has a line between a text and the table after it, and the text is accepted as a system.
 pub record AnswersTable (input : List ℕ) (answer : Answer) : Type 0 where
-  pub front : List ℕ
+  pub model : List ℕ
   pub table : List ℕ
-  pub parted : IsParted input front table
-  pub told : OnAccepted (TellsVerdict table) front answer
+  pub parted : IsParted input model table
+  pub told : OnAccepted (TellsVerdict table) model answer
 
 -- The input has no such line: rule 35, at line 1.
 pub record LacksTable (input : List ℕ) (line rule : ℕ) : Type 0 where
@@ -53,14 +53,14 @@ pub record LacksTable (input : List ℕ) (line rule : ℕ) : Type 0 where
   pub by : rule ≡ 35
 
 -- The text before the table is refused. Its lines are the first ones of the input.
-pub record RefusesFront (input : List ℕ) (line rule : ℕ) : Type 0 where
-  pub front : List ℕ
+pub record RefusesModel (input : List ℕ) (line rule : ℕ) : Type 0 where
+  pub model : List ℕ
   pub table : List ℕ
-  pub parted : IsParted input front table
-  pub refused : IsRefusedAt front line rule
+  pub parted : IsParted input model table
+  pub refused : IsRefusedAt model line rule
 
 abbrev pub RefusesTable : List ℕ → ℕ → ℕ → Type 0
-RefusesTable input line rule = LacksTable input line rule ⊎ RefusesFront input line rule
+RefusesTable input line rule = LacksTable input line rule ⊎ RefusesModel input line rule
 
 abbrev pub AnswersVerify : List ℕ → Answer → Type 0
 AnswersVerify = AnswersWithin verify_limit AnswersTable

@@ -109,7 +109,7 @@ promises_same : (input : Option ℕ) (IsAnswer : List ℕ → Answer → Type 0)
     → now.notes.faults ≡ before.notes.faults → Promises input IsAnswer before now wanted
 promises_same input IsAnswer before now wanted text_of_note facts told same = record {
   answer = λ quiet more. answer_by input IsAnswer before now wanted text_of_note facts told quiet more (kind_of wanted);
-  prefix = record { front = facts.front; nothing = facts.nothing };
+  prefix = record { begins = facts.front; nothing = facts.nothing };
   cause = record {
     own = λ own. mapped IsAnswer before.source (λ answer found. found.2) (facts.own own);
     read_fault = λ is. (facts.read_fault is).0;
@@ -140,7 +140,7 @@ promises_failed : (input : Option ℕ) (IsAnswer : List ℕ → Answer → Type 
     → Fails before.notes now.notes → Promises input IsAnswer before now status.WriteFault
 promises_failed input IsAnswer before now wanted text_of_note facts front rose = record {
   answer = λ quiet more. absurd (quiet.notes rose);
-  prefix = record { front = facts.front; nothing = λ is. absurd (no_write_fault is) };
+  prefix = record { begins = facts.front; nothing = λ is. absurd (no_write_fault is) };
   cause = record {
     own = λ own. absurd own;
     read_fault = λ is. absurd (cc);

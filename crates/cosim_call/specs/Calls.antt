@@ -62,7 +62,7 @@ BeginsAnswer IsAnswer source out now = HasAnswer IsAnswer source (λ answer. App
 -- Prefix clause: in every case what was written is a prefix of an answer's bytes. A call that ends by Usage, Refused or ReadFault
 -- left the output as it was.
 pub record PrefixClause (IsAnswer : List ℕ → Answer → Type 0) (before now : Streams) (given : Status) : Type 0 where
-  pub front : BeginsAnswer IsAnswer before.source before.out now.out
+  pub begins : BeginsAnswer IsAnswer before.source before.out now.out
   pub nothing : (given ≡ status.Usage) ⊎ ((given ≡ status.Refused) ⊎ (given ≡ status.ReadFault)) → now.out ≡ before.out
 
 -- Cause clause: a fault comes only where its stream failed, and any status of an answer only where an answer has it. Where a stream

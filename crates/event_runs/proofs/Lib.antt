@@ -6,6 +6,7 @@ pub mod NoneLaws
 pub mod OfferLaws
 pub mod OnlyTraces
 pub mod PortLaws
+pub mod RestLaws
 pub mod RowLaws
 pub mod RunLaws
 pub mod SaidUnits

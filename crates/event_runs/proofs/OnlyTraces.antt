@@ -27,7 +27,7 @@ module _ (members : List EventMember) (run : Composition) (order : List ℕ) (pl
   ends_is is = cc
 
   -- Two stands at the same position are the same.
-  same_stand : (here : Stand) (other : EventStand) → HasWords run here.at → IsStand run here → IsEventAssignment members other.at.states other.signals
+  pub same_stand : (here : Stand) (other : EventStand) → HasWords run here.at → IsStand run here → IsEventAssignment members other.at.states other.signals
       → other.at ≡ here.at → other ≡ read_stand members here
   same_stand here other words is assigned same =
       let only = one_event_assignment members run here.at.states plain (fits members run order plain are ordered here.at words) order ordered in
@@ -36,7 +36,7 @@ module _ (members : List EventMember) (run : Composition) (order : List ℕ) (pl
       ∙ sym (only.is_only (read_stand members here).signals (stand_read members run order plain are ordered here words is)) in
       ap (λ (at : Position). record { at = at; signals = other.signals }) same ∙ ap (λ s. record { at = here.at; signals = s }) signals
 
-  same_rest : (here : Stand) (xs : List Stand) (ys : List EventStand) (e f : Ending) → HasWords run here.at → IsStand run here → Follows run here xs e
+  pub same_rest : (here : Stand) (xs : List Stand) (ys : List EventStand) (e f : Ending) → HasWords run here.at → IsStand run here → Follows run here xs e
       → EventFollows source (read_stand members here) ys f → (ys ≡ map (read_stand members) xs) × (f ≡ read_ending members e)
   same_rest here [] [] e f words is p q =
       (refl, ends_is (sym q ∙ successor_read members run order plain are ordered here words is ∙ ap (read_next members) p))
@@ -52,7 +52,7 @@ module _ (members : List EventMember) (run : Composition) (order : List ℕ) (pl
       let rest = same_rest x xs ys e f kept p.0.1 p.1 (subst (λ (z : EventStand). EventFollows source z ys f) same q.2) in
       (ap (λ z. z ∷ ys) same ∙ ap (λ zs. read_stand members x ∷ zs) rest.0, rest.1)
 
-  same_trace : (xs : List Stand) (ys : List EventStand) (e f : Ending) → IsTrace run xs e → IsEventTrace source ys f
+  pub same_trace : (xs : List Stand) (ys : List EventStand) (e f : Ending) → IsTrace run xs e → IsEventTrace source ys f
       → (ys ≡ map (read_stand members) xs) × (f ≡ read_ending members e)
   same_trace [] ys e f p q = absurd p
   same_trace (x ∷ xs) [] e f p q = absurd q

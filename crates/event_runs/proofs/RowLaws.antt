@@ -1,6 +1,6 @@
 -- The rows of a plain form, read as signals, are those of the source.
 use Rattle.std.proofs.Common.{◌≡◌, ℕ, Bool, true, false, if◌then◌else◌, pos, List, [], ◌∷◌, map, length, Option, Some, None, refl, sym, ap, ◌∙◌, subst}
-use Rattle.std.specs.Prelude.{is_some, ◌&&◌}
+use Rattle.std.specs.Prelude.{is_some}
 use Rattle.std.specs.List.{AllByRecursion, flat_map, filter_map, list_all, cons_option}
 use Rattle.std.specs.Option.{option_map}
 use Rattle.std.specs.Ordering.{int_eq}
@@ -47,7 +47,7 @@ shaped (true ∷ shape) (None ∷ word ∷ ports) tidy all = absurd (cc)
 shaped (true ∷ shape) (Some tells ∷ None ∷ ports) tidy all = absurd (cc)
 shaped (true ∷ shape) (Some tells ∷ Some word ∷ ports) tidy all = (tidy.0, shaped shape ports tidy.1 all)
 
-cons_map : {A B : Type 0} (f : A → B) (x : Option A) (xs : List A) → cons_option (option_map f x) (map f xs) ≡ map f (cons_option x xs)
+pub cons_map : {A B : Type 0} (f : A → B) (x : Option A) (xs : List A) → cons_option (option_map f x) (map f xs) ≡ map f (cons_option x xs)
 cons_map f None xs = refl
 cons_map f (Some x) xs = refl
 
@@ -73,10 +73,10 @@ module _ (members : List EventMember) (run : Composition) (order : List ℕ) (pl
       (fault_is_read members run stand.at.states stand.ports plain fit tidy ∙ ap (option_map (read_ending members)) told)
       ∙ ap (λ signals. Some (record { point = stand.at.point; signals = signals })) (words_read (flat_map shape_of members) stand.ports tidy defined)
 
-  row_read : (stand : Stand) → HasWords run stand.at → IsStand run stand → row_of stand ≡ option_map (read_row members) (row_at run stand)
+  pub row_read : (stand : Stand) → HasWords run stand.at → IsStand run stand → row_of stand ≡ option_map (read_row members) (row_at run stand)
   row_read stand words is = row_by (port_fault run stand.at.states stand.ports) stand words is refl
 
-  follow_rows : (here : Stand) (stands : List Stand) (ending : Ending) → HasWords run here.at → IsStand run here → Follows run here stands ending
+  pub follow_rows : (here : Stand) (stands : List Stand) (ending : Ending) → HasWords run here.at → IsStand run here → Follows run here stands ending
       → event_rows_of (record { members = members; pace = pace_of run }) (map (read_stand members) (here ∷ stands))
       ≡ map (read_row members) (rows_of run (here ∷ stands))
   follow_rows here [] ending words is follows = ap (λ row. cons_option row []) (row_read here words is) ∙ cons_map (read_row members) (row_at run here) []
@@ -94,7 +94,7 @@ module _ (members : List EventMember) (run : Composition) (order : List ℕ) (pl
 
   -- ---- Words of a row
 
-  fit_by : (fault : Option Ending) (stand : Stand) (rest : List Row) → HasWords run stand.at → IsStand run stand
+  pub fit_by : (fault : Option Ending) (stand : Stand) (rest : List Row) → HasWords run stand.at → IsStand run stand
       → port_fault run stand.at.states stand.ports ≡ fault → AllByRecursion (λ row. HasShape (flat_map shape_of members) row.words) rest
       → AllByRecursion (λ row. HasShape (flat_map shape_of members) row.words) (cons_option (row_unless fault stand.at.point stand.ports) rest)
   fit_by (Some ending) stand rest words is told all = all
@@ -104,7 +104,7 @@ module _ (members : List EventMember) (run : Composition) (order : List ℕ) (pl
       let count : length stand.at.states ≡ length run.members = AllZip-long _ run.members stand.at.states words in
       (shaped (flat_map shape_of members) stand.ports tidy ((undefined_faults run order stand.at.states stand.ports ordered count is).0 told), all)
 
-  follow_fit : (here : Stand) (stands : List Stand) (ending : Ending) → HasWords run here.at → IsStand run here → Follows run here stands ending
+  pub follow_fit : (here : Stand) (stands : List Stand) (ending : Ending) → HasWords run here.at → IsStand run here → Follows run here stands ending
       → AllByRecursion (λ row. HasShape (flat_map shape_of members) row.words) (rows_of run (here ∷ stands))
   follow_fit here [] ending words is follows = fit_by (port_fault run here.at.states here.ports) here [] words is refl tt
   follow_fit here (next ∷ stands) ending words is follows =

@@ -1,11 +1,10 @@
 -- The right sides of the source's equations are those of the plain form's, read as signals.
-use Rattle.std.proofs.Common.{◌≡◌, ℕ, Bool, true, false, ℤ, pos, List, [], ◌∷◌, ◌++◌, append_assoc, map, length, Option, Some, None, Result, Ok, Err, inl, inr}
+use Rattle.std.proofs.Common.{◌≡◌, ℕ, Bool, true, ℤ, pos, List, [], ◌∷◌, ◌++◌, append_assoc, map, length, Option, Some, None, Result, Ok, Err, inl, inr}
 use Rattle.std.proofs.Common.{refl, sym, ap, ◌∙◌, subst}
-use Rattle.std.specs.Prelude.{zip, ◌||◌}
+use Rattle.std.specs.Prelude.{zip}
 use Rattle.std.specs.List.{AllByRecursion, flat_map}
 use Rattle.std.specs.Option.{option_map, option_and_then}
 use Rattle.std.specs.Result.{result_ok}
-use Rattle.std.specs.Str.{bytes_eq}
 use Rattle.std.proofs.lemmas.List.{length-map, map-append}
 use Rattle.fixed_words.specs.Operations.{Outcome}
 use Rattle.fixed_words.specs.declared.types.Fault.{Fault}
@@ -22,15 +21,14 @@ use Rattle.unit_tree.specs.declared.unit.EventIn.{EventIn}
 use Rattle.unit_tree.specs.declared.unit.EventOut.{EventOut}
 use Rattle.unit_tree.specs.declared.unit.Output.{Output}
 use Rattle.unit_tree.specs.declared.unit.Unit.{Unit}
-use Rattle.list_laws.proofs.Members.{Has, has_map}
-use Rattle.language_laws.proofs.NameLaws.{bytes_of}
+use Rattle.list_laws.proofs.Members.{has_map}
 use Rattle.list_laws.proofs.Members.{all_has, each_has}
 use Rattle.list_laws.proofs.Lists.{each_part}
 use Rattle.run_laws.proofs.PortLaws.{has_among}
 use Rattle.event_runs.specs.EventPorts.{Signals, EventMember, Plain, Event, needs_in, get_out, word_needed, signal_needed, seen_for, EventStanding, signal_of}
 use Rattle.event_runs.specs.EventPorts.{signals_at}
 use Rattle.event_runs.specs.Readings.{is_event, shape_of, read_pair, read_ports, plain_source, plain_feed, plain_member, plain_component, plain_words}
-use Rattle.event_runs.specs.Laws.{IsTidyPair, AreTidy, IsWired, Speaks, Fits, AreTwoGets, zero_value}
+use Rattle.event_runs.specs.Laws.{IsTidyPair, AreTidy, IsWired, Speaks, Fits, AreTwoGets}
 use Rattle.event_runs.specs.Events.{Signal, Occurs, Absent, Seen, get_in, get_event}
 use Rattle.event_runs.proofs.CallLaws.{zero_given, get_same, event_same, of_event, of_input}
 use Rattle.event_runs.proofs.EventLaws.{plainly}

@@ -1,7 +1,7 @@
 -- Places and connections of a plain form, from those of its system.
 use Rattle.std.proofs.Common.{◌≡◌, ℕ, suc, ◌+◌, Bool, true, false, cond, List, [], ◌∷◌, ◌++◌, map, Option, Some, None, inl, inr, refl, ap, sym, ◌∙◌}
 use Rattle.std.proofs.Common.{◌⊎◌, arith}
-use Rattle.std.specs.Prelude.{not, ◌&&◌, slice_get}
+use Rattle.std.specs.Prelude.{not, slice_get}
 use Rattle.std.specs.List.{AllByRecursion, flat_map, filter_map, cons_option, position_or_len}
 use Rattle.std.specs.Option.{option_map}
 use Rattle.std.proofs.lemmas.Option.{slice_get-map}

@@ -3,7 +3,8 @@ use Rattle.std.proofs.Common.{◌≡◌, ℕ, ℤ, List, [], ◌∷◌, map, len
 use Rattle.std.specs.List.{AllByRecursion, flat_map}
 use Rattle.std.specs.Option.{unwrap_or}
 use Rattle.fixed_words.specs.declared.types.Literal.{Literal}
-use Rattle.unit_tree.specs.Compositions.{Composition, Member, members_of, composition_of, run_of, ticks_or, default_zeros}
+use Rattle.model_rules.specs.Limits.{default_zeros}
+use Rattle.unit_tree.specs.Compositions.{Composition, Member, members_of, composition_of, run_of, ticks_or}
 use Rattle.unit_tree.specs.Compositions.{default_rows, AreMembers}
 use Rattle.unit_tree.specs.Orders.{HasNoCycle}
 use Rattle.unit_tree.specs.Plain.{plain_form}
@@ -65,7 +66,7 @@ plain_factors given made same (x ∷ xs) =
 
 -- ---- The last point
 
-last_read : (members : List EventMember) (stands : List Stand) → last_point stands ≡ last_event_point (map (read_stand members) stands)
+pub last_read : (members : List EventMember) (stands : List Stand) → last_point stands ≡ last_event_point (map (read_stand members) stands)
 last_read members [] = refl
 last_read members (stand ∷ []) = refl
 last_read members (stand ∷ later ∷ others) = last_read members (later ∷ others)
@@ -77,37 +78,37 @@ module _ (system : System) (ranged : IsRanged system) (kept : IsWellFormed syste
   abbrev run : Composition
   run = run_of system
 
-  plain : IsPlainRun members run
-  plain = members_plain system ranged kept
+  pub system_plain : IsPlainRun members run
+  system_plain = members_plain system ranged kept
 
-  are : AreMembers run
-  are = system_has_members (plain_form system)
+  pub system_are : AreMembers run
+  system_are = system_has_members (plain_form system)
 
-  abbrev order : (order : List ℕ) × IsPlaceOrder run order
-  order = runs_have_orders system ranged kept no_cycle
+  abbrev pub system_order : (order : List ℕ) × IsPlaceOrder run order
+  system_order = runs_have_orders system ranged kept no_cycle
 
-  same_pace : pace_of run ≡ event_pace system members
-  same_pace =
+  pub system_pace : pace_of run ≡ event_pace system members
+  system_pace =
       pace_alike system (plain_form system) (map (λ (one : EventMember). one.member.factor) members) (alike system)
-      (ap (map (λ (one : Member). one.factor)) plain.members_are
+      (ap (map (λ (one : Member). one.factor)) system_plain.members_are
       ∙ plain_factors (λ one. one) (plain_member (flat_map shape_of members)) (λ one. refl) members
       ∙ ap (map (λ (one : EventMember). one.member.factor)) (map-id members))
 
-  abbrev with_pace : Pace → EventRun
+  abbrev pub with_pace : Pace → EventRun
   with_pace pace = record { members = members; pace = pace }
 
   pub tells : (rows : List Row) (last : Point) (ending : Ending) → IsTraceOf system rows last ending
       → IsEventTraceOf system (read_rows system rows) last (read_end system ending)
   tells rows last ending of = record {
     stands = map (read_stand members) of.stands;
-    trace = subst (λ pace. IsEventTrace (with_pace pace) (map (read_stand members) of.stands) (read_end system ending)) same_pace
-        (trace_read members run order.0 plain are order.1 of.stands ending of.trace);
-    rows_are = ap (read_rows system) of.rows_are ∙ sym (rows_read members run order.0 plain are order.1 of.stands ending of.trace);
+    trace = subst (λ pace. IsEventTrace (with_pace pace) (map (read_stand members) of.stands) (read_end system ending)) system_pace
+        (trace_read members run system_order.0 system_plain system_are system_order.1 of.stands ending of.trace);
+    rows_are = ap (read_rows system) of.rows_are ∙ sym (rows_read members run system_order.0 system_plain system_are system_order.1 of.stands ending of.trace);
     last_is = of.last_is ∙ last_read members of.stands;
   }
 
   only_one : HasOneEventTrace (event_run_of system)
-  only_one = subst (λ pace. HasOneEventTrace (with_pace pace)) same_pace (one_event_trace members run order.0 plain are order.1)
+  only_one = subst (λ pace. HasOneEventTrace (with_pace pace)) system_pace (one_event_trace members run system_order.0 system_plain system_are system_order.1)
 
   pub one_outcome : HasOneEventTraceOf system
   one_outcome = record {
@@ -127,7 +128,7 @@ module _ (system : System) (ranged : IsRanged system) (kept : IsWellFormed syste
       → AllByRecursion (λ row. HasShape (system_shape system) row.words) rows
   rows_shaped rows last ending of =
       subst (AllByRecursion (λ row. HasShape (system_shape system) row.words)) (sym of.rows_are)
-      (rows_fit members run order.0 plain are order.1 of.stands ending of.trace)
+      (rows_fit members run system_order.0 system_plain system_are system_order.1 of.stands ending of.trace)
 
   pub one_assignment : (states : List (List ℤ)) → StatesFit members states → HasOneEventAssignment members states
-  one_assignment states fit = one_event_assignment members run states plain fit order.0 order.1
+  one_assignment states fit = one_event_assignment members run states system_plain fit system_order.0 system_order.1

@@ -174,7 +174,7 @@ module _ (members : List EventMember) (run : Composition) (order : List ℕ) (pl
   pub stand_read : (stand : Stand) → HasWords run stand.at → IsStand run stand → IsEventAssignment members stand.at.states (read stand.ports)
   stand_read stand words is = (assignment_is_read members run stand.at.states plain (fits stand.at words) stand.ports is).1
 
-  follows_read : (here : Stand) (stands : List Stand) (ending : Ending) → HasWords run here.at → IsStand run here → Follows run here stands ending
+  pub follows_read : (here : Stand) (stands : List Stand) (ending : Ending) → HasWords run here.at → IsStand run here → Follows run here stands ending
       → EventFollows source (read_stand members here) (map (read_stand members) stands) (read_ending members ending)
   follows_read here [] ending words is follows = successor_read here words is ∙ ap (read_next members) follows
   follows_read here (next ∷ stands) ending words is follows =

@@ -3,7 +3,8 @@ use Rattle.std.specs.List.{filter_map}
 use Rattle.std.specs.Option.{option_map, unwrap_or}
 use Rattle.std.specs.Prelude.{ℕ, List, [], ◌∷◌, map, Option, Some, None, ◌≡◌, length}
 use Rattle.super_time.specs.declared.point.Point.{Point}
-use Rattle.unit_tree.specs.Compositions.{Member, place_of, member_with, stop_of, ticks_or, default_zeros, default_rows}
+use Rattle.model_rules.specs.Limits.{default_zeros}
+use Rattle.unit_tree.specs.Compositions.{Member, place_of, member_with, stop_of, ticks_or, default_rows}
 use Rattle.unit_tree.specs.Names.{unit_of_instance}
 use Rattle.unit_tree.specs.Orders.{port_of, sources_of}
 use Rattle.unit_tree.specs.WellFormed.{resolution_of}

@@ -7,7 +7,7 @@ use Rattle.fixed_words.specs.Types.{kind_of}
 use Rattle.fixed_words.specs.declared.types.Fault.{Fault}
 use Rattle.fixed_words.specs.declared.types.Ty.{Ty}
 use Rattle.super_time.specs.declared.point.Point.{Point}
-use Rattle.unit_tree.specs.Components.{Component, variable, get_of, max_of, step_of}
+use Rattle.unit_tree.specs.Components.{Component, get_of, max_of, step_of}
 use Rattle.unit_tree.specs.Compositions.{InputSource, Start, AtPlace, Composition, AreMembers, run_of}
 use Rattle.unit_tree.specs.Names.{is_among, are_among, names_in, events_asked_in, expression_on, event_input_names}
 use Rattle.unit_tree.specs.Orders.{HasNoCycle}

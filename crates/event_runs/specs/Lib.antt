@@ -1,4 +1,5 @@
 pub mod EventPorts
+pub mod EventRests
 pub mod EventRuns
 pub mod EventTrace
 pub mod Events

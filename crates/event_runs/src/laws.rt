@@ -1,4 +1,5 @@
 //! Laws of runs of systems with event ports.
+ghost use Rattle.event_runs.specs.EventRests.{PositionsAreRead, RestsAreOnce, RestsAreRead, RestsHaveShape, StandsAreRead};
 ghost use Rattle.event_runs.specs.Laws.{PlainExpressionsMeanTheSame, EventsAreTwo, NoEventsMeanTheSame, ComponentsHavePlainCalls, MembersGiveTheSame, FaultsAreRead, TracesAreRead, RowsAreRead, SourcesHaveOneTrace, MembersArePlain, SystemsHaveOneEventAssignment, PlainFormsTellTheTrace, RowsHaveShape, SourcesHaveOneOutcome, SuccessorsAreByOffers, SameOffersLeadOn, AssignmentsAreRead, EventAssignmentsAreRead, EventAssignmentsAreUnique};
 
 /// A law: the plain form of an expression has its value; the two expressions that an event output's becomes give its
@@ -62,4 +63,15 @@ pub fn systems_have_one_event_trace()
     ensures tells { PlainFormsTellTheTrace }
     ensures rows { RowsHaveShape }
     ensures one { SourcesHaveOneOutcome }
+{}
+
+/// A law: the positions of a system in range that is well-formed and has no cycle are those of its plain form. The rest of its
+/// trace from a position on is that of the plain form, read as signals, and there is no other. So are the rows of the first
+/// stands of its trace.
+pub fn rests_are_read()
+    ensures positions { PositionsAreRead }
+    ensures read { RestsAreRead }
+    ensures once { RestsAreOnce }
+    ensures rows { RestsHaveShape }
+    ensures stands { StandsAreRead }
 {}

@@ -9,7 +9,8 @@
 //! - `specs/EventPorts.antt`: port assignments;
 //! - `specs/Offers.antt`: how a run goes on, by the results of its members' calls;
 //! - `specs/EventTrace.antt`: port faults, positions, rows and traces;
-//! - `specs/EventRuns.antt`: what is run for a system, and its trace.
+//! - `specs/EventRuns.antt`: what is run for a system, and its trace;
+//! - `specs/EventRests.antt`: positions of a trace, and the rest of a trace from one on.
 //!
 //! The promises about a run use these definitions. How ports, rows and endings of the plain form are read is in
 //! `specs/Readings.antt`, and the laws are stated in `specs/Laws.antt`.
@@ -22,6 +23,6 @@ mod laws;
 
 pub use laws::{
     assignments_are_read, components_have_plain_calls, faults_are_read, members_are_plain,
-    members_give_the_same, plain_expressions_mean_the_same, successors_are_by_offers,
-    systems_have_one_event_trace, traces_are_read,
+    members_give_the_same, plain_expressions_mean_the_same, rests_are_read,
+    successors_are_by_offers, systems_have_one_event_trace, traces_are_read,
 };

@@ -3,10 +3,11 @@ use Rattle.std.proofs.Common.{◌≡◌, ℕ, ◌≤◌, List, [], ◌∷◌, �
 use Rattle.std.proofs.Common.{refl, sym, ap, subst, ◌∙◌, arith}
 use Rattle.std.specs.Prelude.{◌⊎◌, codes, decimal}
 use Rattle.std.proofs.lemmas.List.{append_cancel_left}
-use Rattle.save_point.specs.Reading.{IsNumberText, IsPointText, Tells}
+use Rattle.save_point.specs.Reading.{IsNumberText, IsPointText}
 use Rattle.save_point.specs.SavedTexts.{BeginsWithLines, IsFirstLine, IsPointLine, IsRowLine, LacksLine}
 use Rattle.super_time.specs.declared.point.Point.{Point}
 use Rattle.unit_tree.specs.Lines.{lines_of, without_return}
+use Rattle.text_tokens.specs.Results.{Tells}
 
 -- What lines of rows and of points begin with.
 abbrev pub row_front : List ℕ

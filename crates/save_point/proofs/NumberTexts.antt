@@ -19,8 +19,9 @@ use Rattle.fixed_words.specs.declared.types.Ty.TheVariants.{Int64}
 use Rattle.fixed_words.proofs.Numbers.{decimal_is}
 use Rattle.list_laws.proofs.Truths.{le_asked, le_told, true_is_false}
 use Rattle.text_laws.proofs.WordTexts.{unsigned_value, word_bound, word_fits, word_once}
-use Rattle.save_point.specs.Reading.{IsNumberText, IsWordText, Tells, is_inside, word_in}
+use Rattle.save_point.specs.Reading.{IsNumberText, IsWordText, is_inside, word_in}
 use Rattle.save_point.specs.SavedTexts.{number_limit}
+use Rattle.text_tokens.specs.Results.{Tells}
 
 -- ---- What has only one text
 

@@ -15,12 +15,13 @@ use Rattle.unit_print.specs.Fitting.{is_word}
 use Rattle.fixed_words.specs.Types.{is_word_of}
 use Rattle.fixed_words.specs.declared.types.Ty.TheVariants.{Int64}
 use Rattle.list_laws.proofs.Truths.{lt_asked, lt_told, not_true}
-use Rattle.save_point.specs.Reading.{IsNumberText, IsPointText, IsWordText, Tells, behind_space, first_part, is_inside, other_parts, parts_in, parts_of, state_in, with_word, word_in, words_in}
+use Rattle.save_point.specs.Reading.{IsNumberText, IsPointText, IsWordText, behind_space, first_part, is_inside, other_parts, parts_in, parts_of, state_in, with_word, word_in, words_in}
 use Rattle.save_point.specs.SavedTexts.{IsState, NamedState, spaced_words}
 use Rattle.save_point.proofs.NumberTexts.{number_inside, number_once, number_told, word_asked, word_inside, word_tells}
 use Rattle.super_time.specs.declared.point.Point.{Point}
 use Rattle.text_tokens.proofs.FrontLemmas.{prefix_len-front}
 use Rattle.unit_tree.specs.Tokens.{IsWord, is_letter, is_word_byte}
+use Rattle.text_tokens.specs.Results.{Tells}
 
 -- ---- Parts
 

@@ -18,13 +18,13 @@ use Rattle.unit_tree.specs.Compositions.{Member, member_with}
 use Rattle.unit_tree.specs.Names.{unit_of_instance}
 use Rattle.unit_tree.specs.Plain.{plain_form}
 use Rattle.unit_tree.specs.Printable.{IsRanged}
-use Rattle.unit_tree.specs.Tokens.{IsWord}
 use Rattle.unit_tree.specs.Trace.{AreWordsOf}
 use Rattle.unit_tree.specs.WellFormed.{IsWellFormed}
 use Rattle.unit_tree.specs.declared.system.Instance.{Instance}
 use Rattle.unit_tree.specs.declared.system.System.{System}
 use Rattle.unit_tree.specs.declared.unit.Param.{Param}
 use Rattle.unit_tree.specs.declared.unit.Unit.{Unit}
+use Rattle.text_laws.proofs.TokenWidths.{word_short as name_short}
 
 -- ---- How many words a state has
 
@@ -79,10 +79,6 @@ words_short : (words : List ℤ) → AllByRecursion (λ word. is_word_of Int64 w
 words_short [] fit = omega arith
 words_short (word ∷ words) fit =
     omega (arith, length-append (32 ∷ signed_decimal word) (spaced_words words), word_short word fit.0, words_short words fit.1)
-
-name_short : (name : List ℕ) → IsWord name → length name ≤ 32
-name_short [] is = absurd is
-name_short (first ∷ others) is = omega (arith, is.2)
 
 line_short : (state : NamedState) → IsState state → length state.words ≤ 64 → length (state_line state) ≤ 1382
 line_short state is few =

@@ -11,7 +11,7 @@ use Rattle.std.proofs.lemmas.Option.{same_Some}
 use Rattle.std.proofs.lemmas.Slice.Eq.{bytes_eq-Decides}
 use Rattle.list_laws.proofs.Truths.{true_is_false}
 use Rattle.save_point.specs.Laws.{SavesOrBreaks}
-use Rattle.save_point.specs.Reading.{Tells, parts_of, state_in}
+use Rattle.save_point.specs.Reading.{parts_of, state_in}
 use Rattle.save_point.specs.SavedTexts.{AreNumbers, BeginsState, BeginsWithLines, BreaksAtLine, BreaksState, IsFirstLine, IsPointLine, IsRowLine, IsSaved, IsState, IsStateLine}
 use Rattle.save_point.specs.SavedTexts.{IsTitleLine, IsWithin, LacksLine, LacksPoint, LacksRow, NamedState, number_limit, point_line, row_line, saved_lines}
 use Rattle.save_point.specs.SavedTexts.{spaced_words, state_line, title_line}
@@ -23,6 +23,7 @@ use Rattle.save_point.proofs.ReadStates.{ReadSoFar, read_all, read_breaks, read_
 use Rattle.super_time.specs.declared.point.Point.{Point}
 use Rattle.text_tokens.proofs.LineLemmas.{behind_suc, line_length, lines_of_cut_suc}
 use Rattle.unit_tree.specs.Lines.{without_return}
+use Rattle.text_tokens.specs.Results.{Tells}
 
 -- ---- The first line of a text
 

@@ -3,7 +3,7 @@ use Rattle.std.specs.Prelude.{◌≡◌, ℕ, ◌≤◌, ◌==◌, Bool, true, f
 use Rattle.std.specs.Prelude.{Option, Some, None, Result, Ok, Err, ⊤}
 use Rattle.std.specs.Fmt.{signed_decimal}
 use Rattle.std.specs.List.{list_all, prefix_len, slice_split}
-use Rattle.std.specs.Option.{MatchOption, option_and_then, option_map}
+use Rattle.std.specs.Option.{option_and_then, option_map}
 use Rattle.std.specs.Str.{bytes_eq}
 use Rattle.std.specs.Str.Parse.{signed_digits_value}
 use Rattle.unit_print.specs.Fitting.{is_word}
@@ -19,12 +19,6 @@ use Rattle.text_tokens.specs.declared.fault.Unread.{Unread}
 use Rattle.text_tokens.specs.declared.fault.Unread.TheVariants as unread
 use Rattle.unit_tree.specs.Tokens.{is_letter, is_word_byte}
 use Rattle.unit_tree.specs.declared.system.Instance.{Instance}
-
--- ---- Optional results
-
--- A result has the property; there is none only where nothing has it.
-abbrev pub Tells : {A : Type 0} → Option A → (A → Type 0) → Type 0
-Tells {A} told Is = MatchOption told ((a : A) → Is a → ⊥) Is
 
 -- The bytes are the text of a number within the bound of saved texts; and the text of a word.
 abbrev pub IsNumberText : List ℕ → ℕ → Type 0

@@ -1,9 +1,10 @@
 //! Lines at the beginning of a saved text.
 ghost use Rattle.std.specs.Prelude.{◌≡◌, ℕ, ◌<◌, ◌≤◌, ◌++◌, List, [], length, codes, IfSome};
 ghost use Rattle.std.specs.Option.{MatchOption};
-ghost use Rattle.save_point.specs.Reading.{IsPointText, Tells};
+ghost use Rattle.save_point.specs.Reading.{IsPointText};
 ghost use Rattle.save_point.specs.SavedTexts.{BeginsState, IsFirstLine, IsPointLine, IsRowLine, IsTitleLine, IsWithin, LacksLine, number_limit, point_line, row_line, title_line};
 ghost use Rattle.super_time.specs.declared.point.Point.{Point as Points};
+ghost use Rattle.text_tokens.specs.Results.{Tells};
 
 use crate::words::{cut_part, number_in};
 use text_lines::without_return;

@@ -10,8 +10,9 @@ use Rattle.list_laws.proofs.Lists.{each_more, same_first, same_rest}
 use Rattle.list_laws.proofs.Truths.{lt_asked, lt_told, true_is_false}
 use Rattle.stimulus_tables.specs.Tables.{IsNextTime, MayFollow, fields_of_moment}
 use Rattle.stimulus_tables.specs.declared.moment.Moment.{Moment}
-use Rattle.stimulus_tables.specs.TableFields.{AreEntries, Decides, IsEntryText, IsMomentOf, IsTimeText}
+use Rattle.stimulus_tables.specs.TableFields.{AreEntries, IsEntryText, IsMomentOf, IsTimeText}
 use Rattle.stimulus_tables.specs.Records.{Fields}
+use Rattle.text_tokens.specs.Results.{Decides}
 
 -- ---- Times
 

@@ -15,12 +15,13 @@ use Rattle.csv.specs.Records.{field_at}
 use Rattle.list_laws.proofs.Lists.{each_more, each_part, same_first, same_rest}
 use Rattle.stimulus_tables.specs.Tables.{AllDiffer, IsHead, IsTaken}
 use Rattle.text_tokens.proofs.TokenLemmas.{spells_one}
-use Rattle.stimulus_tables.specs.TableFields.{Decides, IsNextName, IsTimeText, behind_s}
+use Rattle.stimulus_tables.specs.TableFields.{IsNextName, IsTimeText, behind_s}
 use Rattle.stimulus_tables.specs.Records.{Fields}
 use Rattle.stimulus_tables.proofs.MomentLaws.{decides_less, field_there, no_field}
 use Rattle.unit_tree.specs.Tokens.{IsName, Spells}
 use Rattle.unit_tree.specs.declared.token.Token.{Token}
 use Rattle.unit_tree.specs.declared.token.Token.TheVariants as token
+use Rattle.text_tokens.specs.Results.{Decides}
 
 -- ---- Names that are reserved
 

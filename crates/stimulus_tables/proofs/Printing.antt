@@ -21,7 +21,7 @@ use Rattle.list_laws.proofs.Truths.{le_asked, not_negative}
 use Rattle.text_laws.proofs.PrintedLines.{Prints, all_short, all_writable, fixed_short, no_events, none_second, text_within}
 use Rattle.text_laws.proofs.ShortestLines.{unsigned_tokens}
 use Rattle.text_laws.proofs.SpelledBytes.{all_pass}
-use Rattle.text_laws.proofs.TokenWidths.{is_worded, tokens_within, width}
+use Rattle.text_laws.proofs.TokenWidths.{is_worded, tokens_within, width, width_most, word_short}
 use Rattle.text_tokens.specs.Scanning.{keyword_of}
 use Rattle.text_tokens.proofs.TableLemmas.{keyword_of_none}
 use Rattle.unit_tree.specs.Canonical.{canonical_forms, canonical_phrase, expression_tokens, form_tokens, line_text, node_phrase, optional, unit_parts}
@@ -81,10 +81,6 @@ instance_is = ((refl, refl, omega arith), keyword_of_none (codes "table") refl)
 
 state_short : (place : ℕ) → place < 64 → length (state_name place) ≤ 3
 state_short place few = omega (arith, length-decimal-le 2 place (omega arith) (omega arith) (omega arith))
-
-name_short : (name : List ℕ) → IsName name → length name ≤ 32
-name_short [] is = absurd is.0
-name_short (first ∷ others) is = omega (arith, is.0.2)
 
 -- A number of at most 16 digits.
 number_short : (n : ℕ) → n ≤ 10 ^ 15 → length (fixed_text 0 n) ≤ 19
@@ -171,7 +167,7 @@ output_prints name place is few = record {
         arith,
         tokens_within (form_tokens (form.Output (output_with name place))),
         ap (λ tail. width false (front_tokens (form.Output (output_with name place)) ++ tail)) (var_tokens (state_name place)),
-        name_short name is,
+        word_short name is.0,
         state_short place few,
       );
 }
@@ -253,14 +249,6 @@ assign_prints place (negsuc n) few small =
     subst (λ (value : Expr). Prints (form.Assign (state_name place) value)) (sym (negated_number n)) (negated_prints place (suc n) few (omega (arith, small)))
 
 -- ---- The longest step
-
-width_least : (tokens : List Token) → width false tokens ≤ width true tokens
-width_least [] = omega arith
-width_least (first ∷ others) = omega arith
-
-width_most : (one : Bool) (tokens : List Token) → width one tokens ≤ width true tokens
-width_most true tokens = omega arith
-width_most false tokens = width_least tokens
 
 width_append : (behind : Bool) (one other : List Token) → width behind (one ++ other) ≤ width behind one + width true other
 width_append behind [] other = omega (arith, width_most behind other)

@@ -16,7 +16,8 @@ use Rattle.fixed_words.specs.Types.{is_word_of}
 use Rattle.fixed_words.specs.declared.types.Ty.TheVariants.{Int64}
 use Rattle.list_laws.proofs.Truths.{true_is_false}
 use Rattle.text_laws.proofs.WordTexts.{word_fits, word_once}
-use Rattle.stimulus_tables.specs.TableFields.{IsEntryText, IsTimeText, IsWordText, Tells}
+use Rattle.stimulus_tables.specs.TableFields.{IsEntryText, IsTimeText, IsWordText}
+use Rattle.text_tokens.specs.Results.{Tells}
 
 abbrev Parses : List ℕ → Option ℤ → Type 0
 Parses bytes parsed = (word : ℤ) → is_word_of Int64 word ≡ true → bytes ≡ signed_decimal word → parsed ≡ Some word

@@ -1,23 +1,13 @@
 -- The meaning of the fields of a table of stimulus.
-use Rattle.std.specs.Prelude.{◌≡◌, ◌≢◌, ℕ, ◌<◌, ◌≤◌, ◌^◌, ◌==◌, Bool, true, false, if◌then◌else◌, ℤ, unsigned_abs, List, [], ◌∷◌, map, length, decimal, Option, Some, None}
+use Rattle.std.specs.Prelude.{◌≡◌, ◌≢◌, ℕ, ◌<◌, ◌≤◌, ◌^◌, ◌==◌, true, if◌then◌else◌, ℤ, unsigned_abs, List, [], ◌∷◌, map, length, decimal, Option, Some, None}
 use Rattle.std.specs.Fmt.{signed_decimal}
 use Rattle.std.specs.List.{AllByRecursion}
-use Rattle.std.specs.Option.{MatchOption}
 use Rattle.fixed_words.specs.Types.{is_word_of}
 use Rattle.fixed_words.specs.declared.types.Ty.TheVariants.{Int64}
 use Rattle.stimulus_tables.specs.Tables.{IsTaken, IsWritable, fields_of_moment}
 use Rattle.unit_tree.specs.Tokens.{IsName}
 use Rattle.stimulus_tables.specs.declared.moment.Moment.{Moment}
 use Rattle.stimulus_tables.specs.Records.{Fields}
-
--- A result has the property; there is none only where nothing has it.
-abbrev pub Tells : {A : Type 0} → Option A → (A → Type 0) → Type 0
-Tells {A} told Is = MatchOption told ((a : A) → Is a → ⊥) Is
-
--- A test is true exactly where the statement holds.
-abbrev pub Decides : Bool → Type 0 → Type 0
-Decides true Is = Is
-Decides false Is = Is → ⊥
 
 -- The bytes are the text of a word; of a time; of an entry.
 abbrev pub IsWordText : List ℕ → ℤ → Type 0

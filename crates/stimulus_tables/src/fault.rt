@@ -10,7 +10,7 @@ pub enum TableFault {
     #[error("record {number} is not as it has to be")]
     Form {
         /// The number of the first record, from 1, that is missing or doesn't have the form.
-        number: u32,
+        number: u64,
     },
     #[error("no memory")]
     NoMemory,

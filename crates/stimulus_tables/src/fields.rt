@@ -3,7 +3,8 @@ ghost use Rattle.std.specs.Prelude.{◌≡◌, ℤ, true, Some};
 ghost use Rattle.std.specs.Fmt.{signed_decimal};
 ghost use Rattle.fixed_words.specs.Types.{is_word_of};
 ghost use Rattle.fixed_words.specs.declared.types.Ty.TheVariants.{Int64};
-ghost use Rattle.stimulus_tables.specs.TableFields.{IsEntryText, IsTimeText, IsWordText, Tells};
+ghost use Rattle.stimulus_tables.specs.TableFields.{IsEntryText, IsTimeText, IsWordText};
+ghost use Rattle.text_tokens.specs.Results.{Tells};
 
 use itoa::Buffer;
 

@@ -2,7 +2,8 @@
 ghost use Rattle.std.specs.Prelude.{◌≡◌, ◌<◌, ◌∷◌, [], List, drop, length, IfOk};
 ghost use Rattle.csv.specs.Records.{fields_of};
 ghost use Rattle.stimulus_tables.specs.Tables.{IsNextTime, MayFollow};
-ghost use Rattle.stimulus_tables.specs.TableFields.{AreEntries, Decides, IsMomentOf, Tells};
+ghost use Rattle.stimulus_tables.specs.TableFields.{AreEntries, IsMomentOf};
+ghost use Rattle.text_tokens.specs.Results.{Decides, Tells};
 
 use crate::fields::{entry_in, time_in};
 use crate::moment::Moment;

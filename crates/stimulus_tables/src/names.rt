@@ -3,9 +3,10 @@ ghost use Rattle.std.specs.Prelude.{◌≡◌, ◌∷◌, [], List, IfOk};
 ghost use Rattle.std.specs.Option.{option_map};
 ghost use Rattle.csv.specs.Records.{fields_of};
 ghost use Rattle.stimulus_tables.specs.Tables.{IsHead, IsTaken};
-ghost use Rattle.stimulus_tables.specs.TableFields.{Decides, IsNextName, Tells, behind_s};
+ghost use Rattle.stimulus_tables.specs.TableFields.{IsNextName, behind_s};
 ghost use Rattle.unit_tree.specs.Names.{is_among};
 ghost use Rattle.unit_tree.specs.Tokens.{IsName};
+ghost use Rattle.text_tokens.specs.Results.{Decides, Tells};
 
 use crate::fields::time_in;
 use csv::ByteRecord;

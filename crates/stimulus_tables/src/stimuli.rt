@@ -47,7 +47,7 @@ fn read_moments(
     while take_record(reader, fields)? {
         let Some(moment) = next_moment(alloc, fields, names, moments.as_slice())? else {
             return Err(TableFault::Form {
-                number: moments.len() as u32 + 2,
+                number: moments.len() as u64 + 2,
             });
         };
         moments.push(moment)?;

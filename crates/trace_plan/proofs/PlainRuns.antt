@@ -14,7 +14,8 @@ use Rattle.trace_plan.specs.Keeps.{AreNumbersOf}
 use Rattle.trace_plan.specs.Plans.{IsBounded}
 use Rattle.trace_plan.specs.Lengths.{IsLengthOf, IsReadable}
 use Rattle.trace_plan.specs.declared.numbers.Numbers.{Numbers}
-use Rattle.unit_tree.specs.Compositions.{Member, member_with, members_of, ticks_or, default_zeros, default_rows, run_of}
+use Rattle.model_rules.specs.Limits.{default_zeros}
+use Rattle.unit_tree.specs.Compositions.{Member, member_with, members_of, ticks_or, default_rows, run_of}
 use Rattle.unit_tree.specs.Names.{unit_of_instance}
 use Rattle.unit_tree.specs.Plain.{plain_form}
 use Rattle.unit_tree.specs.Printable.{IsRanged, IsLiteralInRange}

@@ -9,6 +9,7 @@ ghost use Rattle.unit_tree.specs.Names.{output_at, output_ports, instance_named,
 ghost use Rattle.unit_tree.specs.Orders.{outputs_of};
 ghost use Rattle.unit_tree.specs.Plain.{plain_form, samples_or_all};
 ghost use Rattle.wire_graph.specs.Wiring.{port_named, port_with};
+ghost use Rattle.model_rules.specs.Limits.{instance_limit, output_limit};
 
 use fixed_words::{NoMemory, Ty};
 use std::alloc::Global;
@@ -176,7 +177,7 @@ fn declared_at(system: &System, instance: &[u8], port: &[u8]) -> Option<(Ty, boo
 
 /// Returns how many outputs a unit has, where it is declared.
 fn output_count(unit: Option<&Unit>) -> u32
-    requires { output_count (option_map (λ unit. unit.now) unit) ≤ 32 }
+    requires { output_count (option_map (λ unit. unit.now) unit) ≤ output_limit }
     ensures { result ≡ output_count (option_map (λ unit. unit.now) unit.entry) }
 {
     match unit {
@@ -187,7 +188,7 @@ fn output_count(unit: Option<&Unit>) -> u32
 
 /// Returns the place of the first output of each instance.
 fn starts(alloc: Global, system: &System) -> Result<Vec<u32>, NoMemory>
-    requires instances { length system.now.instances ≤ 64 }
+    requires instances { length system.now.instances ≤ instance_limit }
     requires outputs { FewOutputs system.now }
     ensures { IfOk result (λ starts. starts.items ≡ starts_from system.now 0 system.now.instances) }
 {

@@ -13,6 +13,7 @@ ghost use Rattle.unit_tree.specs.Names.{unit_named};
 ghost use Rattle.unit_tree.specs.Plain.{plain_form};
 ghost use Rattle.unit_tree.specs.WellFormed.{resolution_of};
 ghost use Rattle.unit_tree.specs.declared.unit.Param.{Param};
+ghost use Rattle.model_rules.specs.Limits.{instance_limit};
 
 use crate::numbers::{factor, resolution};
 use fixed_words::{Literal, NoMemory, range};
@@ -191,7 +192,7 @@ pub(crate) fn all_fitted(alloc: Global, checked: &Checked) -> Result<Vec<Fitted>
 
 /// Returns the numbers of the instances whose code computes a limit, in their order.
 pub(crate) fn limited(alloc: Global, fitted: &[Fitted]) -> Result<Vec<u32>, NoMemory>
-    requires { length fitted.now ≤ 64 }
+    requires { length fitted.now ≤ instance_limit }
     ensures { IfOk result (λ limited. limited.items ≡ places_from 0 (map tells_max fitted.now)) }
 {
     let mut limited = Vec::new(alloc);

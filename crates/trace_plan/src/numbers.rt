@@ -3,11 +3,15 @@ ghost use Rattle.std.specs.Prelude.{◌≡◌, ◌≤◌, ◌^◌, ◌-◌, leng
 ghost use Rattle.std.specs.Option.{IfSome, option_map};
 ghost use Rattle.trace_plan.specs.Keeps.{AreNumbersOf};
 ghost use Rattle.trace_plan.specs.Lengths.{IsReadable};
-ghost use Rattle.unit_tree.specs.Compositions.{ticks_or, default_zeros, default_rows, factor_of, run_of};
+ghost use Rattle.model_rules.specs.Limits.{default_zeros};
+ghost use Rattle.unit_tree.specs.Compositions.{ticks_or, default_rows, factor_of, run_of};
 ghost use Rattle.unit_tree.specs.WellFormed.{unit_resolution, resolution_of};
 
 use fixed_words::{Literal, ten_to_the};
-use model_rules::MOST_CELLS;
+use model_rules::{
+    DEFAULT_ROWS_WITH_EVENTS, DEFAULT_ZERO_STEPS, DEFAULT_ZERO_STEPS_WITH_EVENTS, MOST_CELLS,
+    MOST_ROWS,
+};
 use super_time::read_seconds;
 use unit_tree::{Checked, System, Unit};
 
@@ -71,8 +75,8 @@ fn zero_budget(system: &System) -> u64
 {
     match system.zero {
         Some(count) => u64::from(count),
-        None if system.version == 2 => 1_000,
-        None => 100,
+        None if system.version == 2 => u64::from(DEFAULT_ZERO_STEPS_WITH_EVENTS),
+        None => u64::from(DEFAULT_ZERO_STEPS),
     }
 }
 
@@ -81,8 +85,12 @@ fn default_rows(version: u8, instances: u64) -> u64
     requires { 1 ≤ instances }
     ensures { result ≡ default_rows version instances }
 {
-    let most: u64 = if version == 2 { 10_000 } else { 100_000 };
-    most.min(u64::from(MOST_CELLS) / instances)
+    let most = if version == 2 {
+        DEFAULT_ROWS_WITH_EVENTS
+    } else {
+        MOST_ROWS
+    };
+    u64::from(most).min(u64::from(MOST_CELLS) / instances)
 }
 
 /// Returns the greatest number of rows of the trace.

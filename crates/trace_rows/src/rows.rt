@@ -8,6 +8,7 @@ ghost use Rattle.trace_rows.specs.Faults.{TellsFault};
 ghost use Rattle.trace_rows.specs.Sums.{IsBoundedBy, word_shown, row_sum};
 ghost use Rattle.trace_core.specs.Runs.{Stands};
 ghost use Rattle.trace_csv.specs.TraceText.{HasWord, row_line};
+ghost use Rattle.model_rules.specs.Limits.{rows_limit};
 
 use crate::fault::CrewFault;
 use crate::tally::Tally;
@@ -110,7 +111,7 @@ impl RowRoom {
     ) -> Result<(), CrewFault>
         requires own { run.now.plan ≡ plan.now }
         requires stands { Stands run.now }
-        requires rows { tally.old.rows < 100000 }
+        requires rows { tally.old.rows < rows_limit }
         ensures { PutsRow plan.now run.now.stand (O.held out.old) (O.held out.new) (O.faults out.old) (O.faults out.new) tally.old tally.new result }
     {
         let Some(row) = run.row() else {

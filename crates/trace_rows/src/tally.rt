@@ -1,5 +1,6 @@
 ghost use Rattle.std.specs.Prelude.{◌≡◌, ◌<◌, ◌+◌, ◌*◌, ◌^◌, pos, ◌+ℤ◌};
 ghost use Rattle.trace_rows.specs.Sums.{IsBoundedBy};
+ghost use Rattle.model_rules.specs.Limits.{rows_limit};
 
 /// How many rows were written, and the sum of the words that they show.
 #[derive(Clone, Copy, Debug)]
@@ -20,7 +21,7 @@ impl Tally {
 
     /// Counts a row whose words have this sum.
     pub(crate) fn count(&mut self, sum: i128)
-        requires rows { self.old.rows < 100000 }
+        requires rows { self.old.rows < rows_limit }
         requires bound { IsBoundedBy (2 ^ 95) sum }
         ensures rows { self.new.rows ≡ self.old.rows + 1 }
         ensures sum { self.new.sum ≡ self.old.sum +ℤ sum }

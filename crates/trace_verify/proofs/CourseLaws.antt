@@ -109,7 +109,7 @@ same_put table number next faults line after was told old new kept was_same same
           ∙ ap (λ one. lines_text (take (next - 1) (records_of table)) ++ ([] ++ end_put one)) same ∙ put
           ∙ ap (λ one. (lines_text (take (number - 1) (records_of table)) ++ (line ++ end_put one)) ++ (10 ∷ [])) (sym was_same))
           ∙ sym (append_assoc (marked table) (lines_text (take (number - 1) (records_of table)) ++ (line ++ end_put was)) (10 ∷ []));
-      front = λ stops. absurd (on (sym (ap goes_on same) ∙ stops));
+      over = λ stops. absurd (on (sym (ap goes_on same) ∙ stops));
     }
   where
     on : true ≡ false → ⊥

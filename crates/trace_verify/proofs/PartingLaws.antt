@@ -16,9 +16,9 @@ use Rattle.text_tokens.proofs.LineLemmas.{behind_suc, line_length, line_of_cut, 
 use Rattle.text_tokens.proofs.TableLemmas.{keyword_of_none}
 use Rattle.trace_verify.specs.Laws.{IsPartedOnce}
 use Rattle.trace_verify.specs.Parting.{IsCutBehind, IsOtherLine, IsParted, IsPartingLine, IsWhole, LacksTrace, ended, trace_tokens}
-use Rattle.stimulus_tables.specs.TableFields.{Decides}
 use Rattle.unit_tree.specs.Lines.{code_of, lines_of, without_return}
 use Rattle.unit_tree.specs.Tokens.{IsName, Spells, begins_with, is_blank, is_word_byte}
+use Rattle.text_tokens.specs.Results.{Decides}
 
 -- ---- The word
 
@@ -94,7 +94,7 @@ word_decided : (code : List ℕ) → Decided (Spells trace_tokens code)
 word_decided code = by (same_decided (take 5 (behind_blanks code)) word) (is_decided (list_all is_blank (drop 5 (behind_blanks code))))
   where
     cut : take 5 (behind_blanks code) ≡ word → behind_blanks code ≡ word ++ drop 5 (behind_blanks code)
-    cut is = sym (take-append-drop 5 (behind_blanks code)) ∙ ap (λ front. front ++ drop 5 (behind_blanks code)) is
+    cut is = sym (take-append-drop 5 (behind_blanks code)) ∙ ap (λ model. model ++ drop 5 (behind_blanks code)) is
 
     by : Decided (take 5 (behind_blanks code) ≡ word) → Decided (list_all is_blank (drop 5 (behind_blanks code)) ≡ true) → Decided (Spells trace_tokens code)
     by (inl is) (inl blank) = inl (word_there code (drop 5 (behind_blanks code)) (cut is) blank)
@@ -140,9 +140,9 @@ lines_from behind [] table (inr cut) whole some = absurd (some refl)
 lines_from behind (byte ∷ line) table (inr cut) whole some =
     ap lines_of cut.0 ∙ line_alone byte line whole ∙ ap (λ rest. (byte ∷ line) ∷ lines_of rest) (sym cut.1)
 
-pub lines_parted : (input front table : List ℕ) (is : IsParted input front table) → lines_of input ≡ is.before ++ (is.line ∷ lines_of table)
-lines_parted input front table is =
-    ap lines_of (is.cut ∙ ap (λ bytes. bytes ++ is.behind) is.front_is) ∙ lines_before is.before is.behind is.whole.0
+pub lines_parted : (input model table : List ℕ) (is : IsParted input model table) → lines_of input ≡ is.before ++ (is.line ∷ lines_of table)
+lines_parted input model table is =
+    ap lines_of (is.cut ∙ ap (λ bytes. bytes ++ is.behind) is.model_is) ∙ lines_before is.before is.behind is.whole.0
     ∙ ap (λ lines. is.before ++ lines) (lines_from is.behind is.line table is.cut_behind is.whole.1 (trace_written is.line is.is_trace))
 
 -- ---- Not both, and only one
@@ -151,9 +151,9 @@ no_trace : (before : List (List ℕ)) (line : List ℕ) (rest : List (List ℕ))
 no_trace [] line rest others is = others.0 is
 no_trace (one ∷ before) line rest others is = no_trace before line rest others.1 is
 
-not_both : (input front table : List ℕ) → IsParted input front table → LacksTrace input → ⊥
-not_both input front table is lacks =
-    no_trace is.before is.line (lines_of table) (subst (AllByRecursion IsOtherLine) (lines_parted input front table is) lacks) is.is_trace
+not_both : (input model table : List ℕ) → IsParted input model table → LacksTrace input → ⊥
+not_both input model table is lacks =
+    no_trace is.before is.line (lines_of table) (subst (AllByRecursion IsOtherLine) (lines_parted input model table is) lacks) is.is_trace
 
 same_before : (before others : List (List ℕ)) (line one : List ℕ) (rest more : List (List ℕ)) → before ++ (line ∷ rest) ≡ others ++ (one ∷ more)
     → AllByRecursion IsOtherLine before → AllByRecursion IsOtherLine others → IsPartingLine line → IsPartingLine one → (before ≡ others) × (line ≡ one)
@@ -172,12 +172,12 @@ same_table behind line table also (inl is) (inr too) = absurd (omega (arith, ap 
 same_table behind line table also (inr is) (inl too) = absurd (omega (arith, ap length (sym is.0 ∙ too), length-append line (10 ∷ also)))
 same_table behind line table also (inr is) (inr too) = is.1 ∙ sym too.1
 
-only : (input front other table also : List ℕ) → IsParted input front table → IsParted input other also → (front ≡ other) × (table ≡ also)
-only input front other table also is too =
+only : (input model other table also : List ℕ) → IsParted input model table → IsParted input other also → (model ≡ other) × (table ≡ also)
+only input model other table also is too =
     let lines = same_before is.before too.before is.line too.line (lines_of table) (lines_of also)
-    (sym (lines_parted input front table is) ∙ lines_parted input other also too) is.is_first too.is_first is.is_trace too.is_trace in
-    let fronts : front ≡ other = is.front_is ∙ ap ended lines.0 ∙ sym too.front_is in
-    let behinds : too.behind ≡ is.behind = append_cancel_left front too.behind is.behind (ap (λ bytes. bytes ++ too.behind) fronts ∙ sym too.cut ∙ is.cut) in (
+    (sym (lines_parted input model table is) ∙ lines_parted input other also too) is.is_first too.is_first is.is_trace too.is_trace in
+    let fronts : model ≡ other = is.model_is ∙ ap ended lines.0 ∙ sym too.model_is in
+    let behinds : too.behind ≡ is.behind = append_cancel_left model too.behind is.behind (ap (λ bytes. bytes ++ too.behind) fronts ∙ sym too.cut ∙ is.cut) in (
       fronts,
       same_table is.behind is.line table also is.cut_behind
           (subst (λ line. IsCutBehind is.behind line also) (sym lines.1) (subst (λ behind. IsCutBehind behind too.line also) behinds too.cut_behind)),
@@ -224,7 +224,7 @@ passed_more input rest line behind passed next other = record {
     by (inl cut) = inr (
         whole ∙ ap (λ bytes. ended passed.before ++ bytes) (cut ∙ sym (append_assoc line (10 ∷ []) behind))
         ∙ sym (append_assoc (ended passed.before) (line ++ 10 ∷ []) behind)
-        ∙ ap (λ front. front ++ behind) (sym (ended_more passed.before line)))
+        ∙ ap (λ model. model ++ behind) (sym (ended_more passed.before line)))
 
 -- The text and the table, where the next line is `trace`.
 pub parted_here : (input rest line behind : List ℕ) (passed : IsPassed input rest) → IsNextLine rest line behind → IsPartingLine line
@@ -233,7 +233,7 @@ parted_here input rest line behind passed next is = record {
   before = passed.before;
   line = line;
   behind = rest;
-  front_is = refl;
+  model_is = refl;
   cut = all_left input rest passed.before next.written passed.cut;
   cut_behind = next.cut;
   whole = (passed.whole, next.whole);
@@ -246,7 +246,7 @@ pub front_taken : (input rest line behind : List ℕ) → IsPassed input rest �
 front_taken input rest line behind passed next is =
     let whole = all_left input rest passed.before next.written passed.cut in
     let count = ap length whole in
-    subst (λ front. IsParted input front behind)
+    subst (λ model. IsParted input model behind)
     (sym (ap (take (length input - length rest)) whole ∙ take_at (ended passed.before) rest (length input - length rest)
     (omega (arith, count, length-append (ended passed.before) rest))))
     (parted_here input rest line behind passed next is)
@@ -259,7 +259,7 @@ passed_all input rest passed none =
 -- ---- There is one or the other
 
 abbrev Answer : List ℕ → Type 0
-Answer input = ((front : List ℕ) × (table : List ℕ) × IsParted input front table) ⊎ LacksTrace input
+Answer input = ((model : List ℕ) × (table : List ℕ) × IsParted input model table) ⊎ LacksTrace input
 
 next_there : (byte : ℕ) (rest : List ℕ) → (line : List ℕ) × (behind : List ℕ) × IsNextLine (byte ∷ rest) line behind
 next_there byte rest = (

@@ -93,7 +93,7 @@ goes_on _ = false
 pub record PutsByte (old new : Compared) (byte : ℕ) (goes_on : Bool) : Type 0 where
   pub faults : new.faults ≡ old.faults
   pub whole : goes_on ≡ true → all_held new ≡ all_held old ++ (byte ∷ [])
-  pub front : goes_on ≡ false → (all_held new ≡ all_held old) ⊎ (all_held new ≡ all_held old ++ (byte ∷ []))
+  pub over : goes_on ≡ false → (all_held new ≡ all_held old) ⊎ (all_held new ≡ all_held old ++ (byte ∷ []))
 
 -- The text is the other one or, where it is not complete, a prefix of it.
 abbrev pub Begins : Bool → List ℕ → List ℕ → Type 0

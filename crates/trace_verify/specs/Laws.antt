@@ -10,9 +10,9 @@ VerdictsAreRight = (wanted given : List Fields) → IsRight wanted given (verdic
 
 -- An input has exactly one text and one table, or no line `trace`.
 pub record IsPartedOnce (input : List ℕ) : Type 0 where
-  pub some : ((front : List ℕ) × (table : List ℕ) × IsParted input front table) ⊎ LacksTrace input
-  pub only : (front other table also : List ℕ) → IsParted input front table → IsParted input other also → (front ≡ other) × (table ≡ also)
-  pub not_both : (front table : List ℕ) → IsParted input front table → LacksTrace input → ⊥
+  pub some : ((model : List ℕ) × (table : List ℕ) × IsParted input model table) ⊎ LacksTrace input
+  pub only : (model other table also : List ℕ) → IsParted input model table → IsParted input other also → (model ≡ other) × (table ≡ also)
+  pub not_both : (model table : List ℕ) → IsParted input model table → LacksTrace input → ⊥
 
 abbrev pub TextsArePartedOnce : Type 0
 TextsArePartedOnce = (input : List ℕ) → IsPartedOnce input

@@ -30,12 +30,12 @@ abbrev pub IsCutBehind : List ℕ → List ℕ → List ℕ → Type 0
 IsCutBehind text line rest = (text ≡ line ++ 10 ∷ rest) ⊎ ((text ≡ line) × (rest ≡ []))
 
 -- The parts of the input: the lines before its first line `trace`, and the bytes after that line.
-pub record IsParted (input front table : List ℕ) : Type 0 where
+pub record IsParted (input model table : List ℕ) : Type 0 where
   pub before : List (List ℕ)
   pub line : List ℕ
   pub behind : List ℕ
-  pub front_is : front ≡ ended before
-  pub cut : input ≡ front ++ behind
+  pub model_is : model ≡ ended before
+  pub cut : input ≡ model ++ behind
   pub cut_behind : IsCutBehind behind line table
   pub whole : AllByRecursion IsWhole before × IsWhole line
   pub is_trace : IsPartingLine line

@@ -1,49 +1,24 @@
 //! The cut of an input into a text and a table.
-ghost use Rattle.std.specs.Prelude.{◌≡◌, ◌≤◌, ◌==◌, not, ℕ, List, ◌++◌, length, drop, codes};
+ghost use Rattle.std.specs.Prelude.{◌≡◌, ◌≤◌, ℕ, List, ◌++◌, length, drop, codes};
 ghost use Rattle.std.specs.List.{list_all, prefix_len};
 ghost use Rattle.std.specs.Option.{MatchOption};
 ghost use Rattle.trace_verify.specs.Parting.{IsParted, IsPartingLine, LacksTrace, trace_tokens};
-ghost use Rattle.stimulus_tables.specs.TableFields.{Decides};
-ghost use Rattle.unit_tree.specs.Lines.{code_of};
 ghost use Rattle.unit_tree.specs.Tokens.{Spells, is_blank};
+ghost use Rattle.text_tokens.specs.Results.{Decides};
 
-use text_lines::without_return;
+use text_lines::{code, is_blank, without_return};
 use text_tokens::cut_line;
 
 /// The word of the line between the parts.
 const TRACE: &[u8] = b"trace";
 
-/// The byte that begins a comment.
-const COMMENT: u8 = b'#';
-
 /// The parts of an input.
 #[derive(Clone, Copy, Debug)]
 pub struct Parted<'i> {
     /// The lines before the line `trace`, with their ends: the text of a system.
-    pub front: &'i [u8],
+    pub model: &'i [u8],
     /// The bytes after that line.
     pub table: &'i [u8],
-}
-
-/// Returns how many bytes come before the comment.
-fn code_length(line: &[u8]) -> usize
-    ensures length { result ≡ prefix_len (λ byte. not (byte == 35)) line.now }
-    ensures within { result ≤ length line.now }
-{
-    line.iter().take_while(|byte| **byte != COMMENT).count()
-}
-
-/// Returns the bytes before the comment.
-fn code(line: &[u8]) -> &[u8]
-    ensures { result.now ≡ code_of line.now }
-{
-    line.split_at(code_length(line)).0
-}
-
-fn is_blank(byte: u8) -> bool
-    ensures { result ≡ is_blank byte }
-{
-    byte == b' ' || byte == b'\t'
 }
 
 /// Returns how many blanks come first.
@@ -97,14 +72,14 @@ fn is_parting_line(line: &[u8]) -> bool
 ///
 /// Returns `None` exactly where the input has no such line.
 pub fn part(input: &[u8]) -> Option<Parted<'_>>
-    ensures { MatchOption result (LacksTrace input.now) (λ parts. IsParted input.now parts.front.now parts.table.now) }
+    ensures { MatchOption result (LacksTrace input.now) (λ parts. IsParted input.now parts.model.now parts.table.now) }
 {
     let mut rest = input;
     while !rest.is_empty() {
         let (line, table) = cut_line(rest);
         if is_parting_line(line) {
-            let (front, _) = input.split_at(input.len() - rest.len());
-            return Some(Parted { front, table });
+            let (model, _) = input.split_at(input.len() - rest.len());
+            return Some(Parted { model, table });
         }
         rest = table;
     }

@@ -11,7 +11,7 @@ use Rattle.fixed_words.specs.declared.types.Kind.TheVariants as kinds
 use Rattle.code_units.specs.Scopes.{scope_of}
 use Rattle.code_units.specs.StepLines.{is_right_in}
 use Rattle.code_units.specs.UnitPrograms.{IsCallable, IsRunnable, IsCompilable}
-use Rattle.code_units.specs.declared.scope.Scope.{Scope}
+use Rattle.code_units.specs.declared.scope.CodeScope.{CodeScope}
 use Rattle.code_units.proofs.NamesInSlots.{variables_are}
 use Rattle.unit_tree.specs.Canonical.{optional}
 use Rattle.unit_tree.specs.Components.{variables_of}
@@ -63,7 +63,7 @@ module _ (system : System) (unit : Unit) (declared : Declares (Passes system) un
   abbrev run : Unit
   run = plain_unit unit
 
-  abbrev scope : Scope
+  abbrev scope : CodeScope
   scope = scope_of run params
 
   abbrev Use : List ℕ → Type 0

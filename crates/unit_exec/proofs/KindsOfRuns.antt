@@ -9,7 +9,7 @@ use Rattle.fixed_words.specs.declared.types.Kind.TheVariants as kinds
 use Rattle.code_units.specs.Expressions.{Coded, Coding, name_code, unary_kind_of, binary_kind_of, unary_joined, binary_joined, clamp_joined, choice_joined}
 use Rattle.code_units.specs.Expressions.{node_code, code_of}
 use Rattle.code_units.specs.Scopes.{named}
-use Rattle.code_units.specs.declared.scope.Scope.{Scope}
+use Rattle.code_units.specs.declared.scope.CodeScope.{CodeScope}
 use Rattle.code_units.proofs.ExpressionsMean.{same_kind_is}
 use Rattle.unit_tree.specs.Kinds.{same_kind, is_number, where_holds, unary_kind, binary_kind, KindsOfNames, kind_of_expression}
 use Rattle.unit_tree.specs.Names.{node_names, names_in, node_events, events_asked_in}
@@ -89,7 +89,7 @@ pub record IsOf (coded : Coded) (kind : Kind) : Type 0 where
   pub agrees : coded.agrees ≡ true
   pub kind_is : coded.kind ≡ kind
 
-module _ (scope : Scope) (names : KindsOfNames) (Usable Event : List ℕ → Type 0)
+module _ (scope : CodeScope) (names : KindsOfNames) (Usable Event : List ℕ → Type 0)
     (name_kind : (name : List ℕ) → Usable name → (kind : Kind) → names name ≡ Some kind → (name_code (named scope.names name)).kind ≡ kind)
     (presence_kind : (name : List ℕ) → Event name → (name_code (named scope.names (presence_name name))).kind ≡ kinds.Bool) where
   name_agrees : (name : List ℕ) → (name_code (named scope.names name)).agrees ≡ true

@@ -5,7 +5,7 @@ use Rattle.std.specs.List.{AllByRecursion, flat_map}
 use Rattle.std.proofs.lemmas.Bool.{and_from}
 use Rattle.code_units.specs.Scopes.{named}
 use Rattle.code_units.specs.StepLines.{LineCoding, is_right_in, target_coded, all_coded, node_line_code, line_code, lines_code}
-use Rattle.code_units.specs.declared.scope.Scope.{Scope}
+use Rattle.code_units.specs.declared.scope.CodeScope.{CodeScope}
 use Rattle.unit_tree.specs.Parts.{joined, block_forms, line_forms}
 use Rattle.unit_tree.specs.Plain.{plain_expression, node_plain_line, plain_line}
 use Rattle.unit_tree.specs.declared.line.Line as line
@@ -20,7 +20,7 @@ use Rattle.unit_tree.proofs.FoldLemmas.{fold-Assign, fold-If, fold-Repeat, fold-
 use Rattle.list_laws.proofs.Lists.{each_part}
 use Rattle.list_laws.proofs.Truths.{le_asked}
 
-module _ (scope : Scope) where
+module _ (scope : CodeScope) where
   -- What the code of a line requires of its form.
   abbrev pub FormRight : LineForm → Type 0
   FormRight (form.Assign target value) =

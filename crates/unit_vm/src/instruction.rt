@@ -1,5 +1,6 @@
 ghost use Rattle.std.specs.Prelude.{◌≡◌, ◌≤◌};
 ghost use Rattle.unit_vm.specs.Instructions.{flow_of, takes, leaves, slots_of, is_stored, is_type, is_argued, fits_role};
+ghost use Rattle.model_rules.specs.Limits.{input_limit, local_limit, state_limit};
 
 use crate::program::{Role, Sizes};
 use fixed_words::Ty;
@@ -138,9 +139,9 @@ impl Instruction {
 
     /// Returns whether the table of operations allows its argument, and the slot that it uses exists.
     pub(crate) fn is_argued(self, sizes: Sizes) -> bool
-        requires states { sizes.states ≤ 64 }
-        requires inputs { sizes.inputs ≤ 32 }
-        requires locals { sizes.locals ≤ 64 }
+        requires states { sizes.states ≤ state_limit }
+        requires inputs { sizes.inputs ≤ input_limit }
+        requires locals { sizes.locals ≤ local_limit }
         ensures { result ≡ is_argued sizes self }
     {
         match self {

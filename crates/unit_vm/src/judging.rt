@@ -3,6 +3,7 @@ ghost use Rattle.unit_vm.specs.Programs.{output_part, with_limit};
 ghost use Rattle.unit_vm.specs.Valid.{HasFacts, greatest};
 ghost use Rattle.unit_vm.specs.Tables.{heights_in};
 ghost use Rattle.unit_vm.specs.Judged.{all_allowed, IsJudgedPart, IsNoPart, AreJudged, AreNoParts, IsNoProgram, is_sized, merged, step_part};
+ghost use Rattle.model_rules.specs.Limits.{input_limit, local_limit, state_limit};
 
 use crate::around::{jumps_stay, loop_table};
 use crate::heights::height_table;
@@ -33,9 +34,9 @@ fn merge(one: PartFacts, other: PartFacts) -> PartFacts
 
 /// Returns whether the part may have each of its instructions.
 fn are_allowed(sizes: Sizes, role: Role, code: &[Instruction]) -> bool
-    requires states { sizes.states ≤ 64 }
-    requires inputs { sizes.inputs ≤ 32 }
-    requires locals { sizes.locals ≤ 64 }
+    requires states { sizes.states ≤ state_limit }
+    requires inputs { sizes.inputs ≤ input_limit }
+    requires locals { sizes.locals ≤ local_limit }
     ensures { result ≡ all_allowed sizes role code.now }
 {
     for instruction in code {
@@ -64,9 +65,9 @@ fn judge_part(
     role: Role,
     code: &[Instruction],
 ) -> Result<Option<PartFacts>, NoMemory>
-    requires states { sizes.states ≤ 64 }
-    requires inputs { sizes.inputs ≤ 32 }
-    requires locals { sizes.locals ≤ 64 }
+    requires states { sizes.states ≤ state_limit }
+    requires inputs { sizes.inputs ≤ input_limit }
+    requires locals { sizes.locals ≤ local_limit }
     ensures some { IfOk result (λ found. IfSome found (λ facts. IsJudgedPart sizes (record { role = role; code = code.now }) facts)) }
     ensures none { IfOk result (λ found. IfNone found (IsNoPart sizes (record { role = role; code = code.now }))) }
 {
@@ -95,9 +96,9 @@ fn judge_outputs(
     sizes: Sizes,
     outputs: &[List<Instruction>],
 ) -> Result<Option<PartFacts>, NoMemory>
-    requires states { sizes.states ≤ 64 }
-    requires inputs { sizes.inputs ≤ 32 }
-    requires locals { sizes.locals ≤ 64 }
+    requires states { sizes.states ≤ state_limit }
+    requires inputs { sizes.inputs ≤ input_limit }
+    requires locals { sizes.locals ≤ local_limit }
     ensures some { IfOk result (λ found. IfSome found (AreJudged sizes (map output_part outputs.now))) }
     ensures none { IfOk result (λ found. IfNone found (AreNoParts sizes (map output_part outputs.now))) }
 {
@@ -122,9 +123,9 @@ fn judge_others(
     limit: &Option<List<Instruction>>,
     step: &[Instruction],
 ) -> Result<Option<PartFacts>, NoMemory>
-    requires states { sizes.states ≤ 64 }
-    requires inputs { sizes.inputs ≤ 32 }
-    requires locals { sizes.locals ≤ 64 }
+    requires states { sizes.states ≤ state_limit }
+    requires inputs { sizes.inputs ≤ input_limit }
+    requires locals { sizes.locals ≤ local_limit }
     ensures some { IfOk result (λ found. IfSome found (AreJudged sizes (with_limit limit.now (step_part step.now)))) }
     ensures none { IfOk result (λ found. IfNone found (AreNoParts sizes (with_limit limit.now (step_part step.now)))) }
 {

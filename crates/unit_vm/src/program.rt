@@ -2,6 +2,7 @@ ghost use Rattle.std.specs.Prelude.{◌≡◌, ◌≤◌};
 ghost use Rattle.unit_vm.specs.Instructions.{slots_of, is_stored};
 ghost use Rattle.std.specs.Option.{option_copied};
 ghost use Rattle.unit_vm.specs.Programs.{part_at};
+ghost use Rattle.model_rules.specs.Limits.{input_limit, local_limit, state_limit};
 
 use crate::instruction::Instruction;
 use fixed_words::List;
@@ -56,9 +57,9 @@ pub struct CodeFacts {
 impl Sizes {
     /// Returns how many slots there are, including those of the local time and the step.
     pub fn slots(self) -> u32
-        requires states { self.states ≤ 64 }
-        requires inputs { self.inputs ≤ 32 }
-        requires locals { self.locals ≤ 64 }
+        requires states { self.states ≤ state_limit }
+        requires inputs { self.inputs ≤ input_limit }
+        requires locals { self.locals ≤ local_limit }
         ensures { result ≡ slots_of self }
     {
         self.states + self.inputs + self.locals + 2
@@ -66,9 +67,9 @@ impl Sizes {
 
     /// Returns whether the slot may be written: it is that of a state or a local.
     pub fn is_stored(self, slot: u32) -> bool
-        requires states { self.states ≤ 64 }
-        requires inputs { self.inputs ≤ 32 }
-        requires locals { self.locals ≤ 64 }
+        requires states { self.states ≤ state_limit }
+        requires inputs { self.inputs ≤ input_limit }
+        requires locals { self.locals ≤ local_limit }
         ensures { result ≡ is_stored self slot }
     {
         slot < self.states

@@ -1,6 +1,5 @@
 -- Flat systems of nests, worked out by hand: inputs that several lines lead to, and inputs that no connection reaches.
 use Rattle.std.specs.Prelude.{◌≡◌, ℕ, List, [], ◌∷◌, codes}
-use Rattle.unit_tree.specs.declared.system.Instance.{Instance}
 use Rattle.unit_tree.specs.declared.system.PortName.{PortName}
 use Rattle.unit_tree.specs.declared.system.System.{System}
 use Rattle.nest_text.specs.declared.nest.Bind.{Bind}
@@ -46,6 +45,10 @@ abbrev pub flat_with : List ℕ → List (PortName × PortName) → System
 flat_with name wires =
     system_with (instance_of (codes "a") (codes "Next") ∷ instance_of name (codes "Next") ∷ []) wires (port name (codes "y") ∷ [])
 
+-- The same nest in version 2 of the language.
+abbrev pub of_version_2 : Nest → Nest
+of_version_2 nest = record nest { main = record nest.main { version = 2 } }
+
 pub record NestsAreFlat : Type 0 where
   -- One of the two inputs is connected.
   pub one_connected : flat_of (nest_with (codes "Two") ((port (codes "a") (codes "y"), port (codes "r") (codes "w")) ∷ []))
@@ -60,3 +63,5 @@ pub record NestsAreFlat : Type 0 where
   -- Two ways from one connection make one connection.
   pub two_ways_once : flat_of (nest_with (codes "Ways") ((port (codes "a") (codes "y"), port (codes "r") (codes "u")) ∷ []))
       ≡ flat_with (codes "r_s_k") ((port (codes "a") (codes "y"), port (codes "r_s_k") (codes "x")) ∷ [])
+  -- The flat system has the version of the nest.
+  pub version_kept : flat_of (of_version_2 (nest_with (codes "Two") [])) ≡ record (flat_with (codes "r_k") []) { version = 2 }

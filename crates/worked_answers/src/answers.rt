@@ -1,5 +1,9 @@
 //! The laws that the definitions give what was worked out.
+ghost use Rattle.worked_answers.specs.WorkedEventTexts.{EventTextsAreWorked};
+ghost use Rattle.worked_answers.specs.WorkedGroups.{GroupRulesAreWorked};
 ghost use Rattle.worked_answers.specs.WorkedNests.{NestsAreFlat};
+ghost use Rattle.worked_answers.specs.WorkedSaved.{SavedTextsAreWorked};
+ghost use Rattle.worked_answers.specs.WorkedTables.{TablesAreWorked};
 ghost use Rattle.worked_answers.specs.WorkedVerdicts.{VerdictsAreWorked};
 
 /// A law: the flat systems of nests are those that were worked out by hand.
@@ -7,7 +11,28 @@ pub fn nests_are_worked()
     ensures { NestsAreFlat }
 {}
 
+/// A law: the texts of traces with events are those that were worked out by hand.
+pub fn event_texts_are_worked()
+    ensures { EventTextsAreWorked }
+{}
+
+/// A law: nests break the rules of groups exactly where that was worked out by hand.
+pub fn group_rules_are_worked()
+    ensures { GroupRulesAreWorked }
+{}
+
 /// A law: verdicts on tables are those that were worked out by hand.
 pub fn verdicts_are_worked()
     ensures { VerdictsAreWorked }
+{}
+
+/// A law: the texts of systems that play tables are those that were worked out by hand.
+pub fn tables_are_worked()
+    ensures { TablesAreWorked }
+{}
+
+/// A law: the saved texts of positions are those that were worked out by hand.
+#[tactic(auto, unfolding(save_point::specs::SavedTexts::saved_text))]
+pub fn saved_texts_are_worked()
+    ensures { SavedTextsAreWorked }
 {}

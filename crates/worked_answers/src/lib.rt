@@ -1,9 +1,12 @@
 //! Small answers of commands that were worked out by hand, and for which the definitions give the same.
 //!
-//! No crate depends on this one. It tests definitions that `worked_facts` doesn't reach: those of flat systems and of verdicts. Each
-//! file of `specs/` has the cases of one subject.
+//! No crate depends on this one. It tests definitions that `worked_facts` doesn't reach: those of flat systems, of rules of
+//! groups, of verdicts, of tables, of saved texts and of traces with events. Each file of `specs/` has the cases of one subject.
 #![tactic(auto)]
 
 mod answers;
 
-pub use answers::{nests_are_worked, verdicts_are_worked};
+pub use answers::{
+    event_texts_are_worked, group_rules_are_worked, nests_are_worked, saved_texts_are_worked,
+    tables_are_worked, verdicts_are_worked,
+};

@@ -14,14 +14,14 @@ use stimulus_tables::{TableFault, stimulus};
 use unit_tree::System;
 
 /// Returns the system that plays a table, or a refusal where it doesn't have the form. The refusal has the number of
-/// the record instead of a line.
+/// the record instead of a line. This number is at most 22.
 fn system_of(alloc: Global, table: &[u8]) -> Result<System, Stopped>
     ensures { FindsTable table.now result }
 {
     match stimulus(alloc, table) {
         Ok(system) => Ok(system),
         Err(TableFault::Form { number }) => Err(Stopped::Refused {
-            line: number,
+            line: number as u32,
             rule: Rule::TableHasForm.number(),
         }),
         Err(TableFault::NoMemory) => Err(Stopped::NoMemory),

@@ -59,7 +59,7 @@ pub(crate) fn make(alloc: Global, input: &[u8]) -> Result<Vec<u8>, Stopped>
     ensures { Makes (Answers Verify input.now) result }
 {
     let parts = parts_of(input)?;
-    let plan = plan_of(alloc, parts.front)?;
+    let plan = plan_of(alloc, parts.model)?;
     let verdict = verify(alloc, plan, parts.table)?;
     Ok(line_of(alloc, verdict)?)
 }

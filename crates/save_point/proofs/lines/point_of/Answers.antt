@@ -1,8 +1,9 @@
 use Rattle.std.proofs.Common.{◌≡◌, ◌∙◌, ℕ, Bor, List, None, Some, ap, sym, subst, rules}
 use Rattle.std.specs.Option.{option_map}
-use Rattle.save_point.specs.Reading.{IsNumberText, IsPointText, Tells}
+use Rattle.save_point.specs.Reading.{IsNumberText, IsPointText}
 use Rattle.save_point.proofs.PartTexts.{no_space, no_steps, no_ticks, point_is}
 use Rattle.save_point.proofs.lines.point_of.Goals as goal
+use Rattle.text_tokens.specs.Results.{Tells}
 
 pub returns-in_err-t : goal.returns-in_err-t
 returns-in_err-t c =

@@ -1,9 +1,10 @@
 use Rattle.std.proofs.Common.{◌≡◌, ◌∙◌, Bor, List, ℕ, drop, length, ap, sym, subst}
 use Rattle.std.specs.Option.{option_map}
 use Rattle.csv.specs.Records.{fields_of}
-use Rattle.stimulus_tables.specs.TableFields.{AreEntries, IsTimeText, Tells}
+use Rattle.stimulus_tables.specs.TableFields.{AreEntries, IsTimeText}
 use Rattle.stimulus_tables.proofs.MomentLaws.{moment_there, no_time, nothing_there}
 use Rattle.stimulus_tables.proofs.moments.moment_in.Goals as goal
+use Rattle.text_tokens.specs.Results.{Tells}
 
 pub returns-in_default : goal.returns-in_default
 returns-in_default c =

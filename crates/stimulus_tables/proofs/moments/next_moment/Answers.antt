@@ -1,9 +1,10 @@
 use Rattle.std.proofs.Common.{length, subst}
 use Rattle.csv.specs.Records.{fields_of}
 use Rattle.stimulus_tables.specs.Tables.{IsNextTime}
-use Rattle.stimulus_tables.specs.TableFields.{Decides, IsMomentOf, Tells}
+use Rattle.stimulus_tables.specs.TableFields.{IsMomentOf}
 use Rattle.stimulus_tables.proofs.MomentLaws.{not_next}
 use Rattle.stimulus_tables.proofs.moments.next_moment.Goals as goal
+use Rattle.text_tokens.specs.Results.{Decides, Tells}
 
 pub returns-else-is_next_time : goal.returns-else-is_next_time
 returns-else-is_next_time c =

@@ -2,9 +2,10 @@ use Rattle.std.proofs.Common.{◌≡◌, ◌∙◌, ◌++◌, ◌∷◌, [], Bor
 use Rattle.std.specs.Option.{option_map}
 use Rattle.std.proofs.lemmas.Int.{to_z-of_z}
 use Rattle.csv.specs.Records.{fields_of}
-use Rattle.stimulus_tables.specs.TableFields.{IsEntryText, Tells}
+use Rattle.stimulus_tables.specs.TableFields.{IsEntryText}
 use Rattle.stimulus_tables.proofs.MomentLaws.{field_within, read_all, read_more, read_other}
 use Rattle.stimulus_tables.proofs.moments.words_in.Goals as goal
+use Rattle.text_tokens.specs.Results.{Tells}
 
 pub returns-in_default-entry_in : goal.returns-in_default-entry_in
 returns-in_default-entry_in c =

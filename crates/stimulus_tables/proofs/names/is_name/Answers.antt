@@ -2,9 +2,9 @@ use Rattle.std.proofs.Common.{◌≡◌, ◌∷◌, [], Err, List, subst}
 use Rattle.text_tokens.specs.Scanning.{ReadsAs, TokensAre}
 use Rattle.unit_tree.specs.declared.token.Token.{Token}
 use Rattle.unit_tree.specs.declared.token.Token.TheVariants as token
-use Rattle.stimulus_tables.specs.TableFields.{Decides}
 use Rattle.stimulus_tables.proofs.NameLaws.{name_told, nothing_spelled}
 use Rattle.stimulus_tables.proofs.names.is_name.Goals as goal
+use Rattle.text_tokens.specs.Results.{Decides}
 
 pub returns-in-Ok : goal.returns-in-Ok
 returns-in-Ok c =

@@ -1,10 +1,11 @@
 use Rattle.std.proofs.Common.{◌∙◌, sym, subst}
 use Rattle.stimulus_tables.specs.Tables.{IsTaken}
-use Rattle.stimulus_tables.specs.TableFields.{Decides, IsNextName}
+use Rattle.stimulus_tables.specs.TableFields.{IsNextName}
 use Rattle.stimulus_tables.proofs.NameLaws.{among_told, next_told, on_ok}
 use Rattle.unit_tree.specs.Tokens.{IsName}
 use Rattle.stimulus_tables.proofs.names.is_next_name.Goals as goal
 use Rattle.stimulus_tables.proofs.names.is_next_name.Goals.{then-is_taken-via-then-is_taken, then-is_taken-via-else-is_taken+then-is_among}
+use Rattle.text_tokens.specs.Results.{Decides}
 
 pub returns-then-is_taken : goal.returns-then-is_taken
 returns-then-is_taken c next =

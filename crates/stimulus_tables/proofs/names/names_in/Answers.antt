@@ -1,11 +1,12 @@
 use Rattle.std.proofs.Common.{◌∙◌, ◌++◌, ◌∷◌, [], Bor, List, ℕ, ap, sym, subst, arith}
 use Rattle.std.specs.Option.{option_map}
 use Rattle.csv.specs.Records.{fields_of}
-use Rattle.stimulus_tables.specs.TableFields.{Decides, IsNextName}
+use Rattle.stimulus_tables.specs.TableFields.{IsNextName}
 use Rattle.stimulus_tables.proofs.MomentLaws.{field_within}
 use Rattle.stimulus_tables.proofs.NameLaws.{NamesTo, apart_told, names_all, names_more, names_other, no_first, no_names, other_first, some_names}
 use Rattle.list_laws.proofs.Truths.{true_is_false}
 use Rattle.stimulus_tables.proofs.names.names_in.Goals as goal
+use Rattle.text_tokens.specs.Results.{Decides}
 
 pub returns-in_default : goal.returns-in_default
 returns-in_default c =

@@ -1,9 +1,9 @@
 use Rattle.std.proofs.Common.{subst}
 use Rattle.csv.specs.Records.{fields_of}
 use Rattle.stimulus_tables.specs.Tables.{IsHead}
-use Rattle.stimulus_tables.specs.TableFields.{Tells}
 use Rattle.stimulus_tables.proofs.ReadTables.{head_read, no_head, no_records}
 use Rattle.stimulus_tables.proofs.stimuli.read_head.Goals as goal
+use Rattle.text_tokens.specs.Results.{Tells}
 
 pub returns-then-not-branch : goal.returns-then-not-branch
 returns-then-not-branch c records gives =

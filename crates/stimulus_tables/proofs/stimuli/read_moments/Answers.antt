@@ -2,9 +2,9 @@ use Rattle.std.proofs.Common.{◌∷◌, ◌+◌, [], length, length-append, ap,
 use Rattle.csv.specs.Records.{fields_of}
 use Rattle.stimulus_tables.specs.Tables.{LeavesForm, MayFollow}
 use Rattle.stimulus_tables.specs.Stimuli.{BeganTable}
-use Rattle.stimulus_tables.specs.TableFields.{Tells}
 use Rattle.stimulus_tables.proofs.ReadTables.{moment_lacks, moment_read, moments_end}
 use Rattle.stimulus_tables.proofs.stimuli.read_moments.Goals as goal
+use Rattle.text_tokens.specs.Results.{Tells}
 
 pub loop-moments-init : goal.loop-moments-init
 loop-moments-init c = record {

@@ -1,9 +1,9 @@
 use Rattle.std.proofs.Common.{◌∙◌, ap, subst}
 use Rattle.trace_verify.specs.Parting.{trace_tokens}
-use Rattle.stimulus_tables.specs.TableFields.{Decides}
 use Rattle.unit_tree.specs.Lines.{code_of}
 use Rattle.unit_tree.specs.Tokens.{Spells}
 use Rattle.trace_verify.proofs.parting.is_parting_line.Goals as goal
+use Rattle.text_tokens.specs.Results.{Decides}
 
 pub returns : goal.returns
 returns c =

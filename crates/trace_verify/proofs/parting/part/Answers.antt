@@ -1,8 +1,8 @@
 use Rattle.std.proofs.Common.{arith, subst}
 use Rattle.trace_verify.specs.Parting.{IsPartingLine}
-use Rattle.stimulus_tables.specs.TableFields.{Decides}
 use Rattle.trace_verify.proofs.PartingLaws.{passed_more}
 use Rattle.trace_verify.proofs.parting.part.Goals as goal
+use Rattle.text_tokens.specs.Results.{Decides}
 
 pub loop-rest-preserved : goal.loop-rest-preserved
 loop-rest-preserved c =

@@ -6,7 +6,7 @@ use Rattle.command_line.specs.declared.commands.Command.TheVariants.{Resume}
 use Rattle.cosim_answers.specs.Answer.{Answers}
 use Rattle.cosim_answers.specs.Serving.{GoesOn, TellsResumed}
 use Rattle.cosim_answers.proofs.MakingLaws.{handed_on}
-use Rattle.cosim_answers.proofs.ResumeLaws.{fits_nowhere, refuses_behind, rest_given_up, rest_told, saves_no_position}
+use Rattle.cosim_answers.proofs.ResumeLaws.{fits_nowhere, refuses_behind, rest_given_up, rest_answered, saves_no_position}
 use Rattle.cosim_commands.proofs.commands.resume.serve.Goals as goal
 
 pub returns-in_err-saved : goal.returns-in_err-saved
@@ -44,7 +44,7 @@ pub returns : goal.returns
 returns g c =
     let out = stream (g.O.Sink.held c.args.out.now) (g.O.Sink.faults c.args.out.now) in
     let out' = stream (g.O.Sink.held c.go_on.new.out) (g.O.Sink.faults c.go_on.new.out) in
-    rest_told c.args.text.now c.in_ok-saved.saved c.in_ok-plan.plan.value c.requires.within c.in_ok-saved.ensures c.in_ok-plan.ensures.planned
+    rest_answered c.args.text.now c.in_ok-saved.saved c.in_ok-plan.plan.value c.requires.within c.in_ok-saved.ensures c.in_ok-plan.ensures.planned
     c.in_ok-plan.ensures.whole c.in_ok-run.run' c.in_ok-run.ensures.0 out out' c.in_ok-report.report c.resumed.result
     (subst (λ p. GoesOn p c.in_ok-run.run'.opened out out' (Ok c.in_ok-report.report)) c.deref.ensures c.in_ok-report.ensures)
     (subst (λ (p : Planned). TellsResumed p.system c.in_ok-report.report c.resumed.result) c.deref-2.ensures c.resumed.ensures)

@@ -16,7 +16,7 @@ returns-in_err-plan c =
     let parts = c.in_ok-parts.parts in
     handed_on (Makes (Answers Verify c.args.input.now)) c.from_residual-in_err-plan.result c.in_err-plan.field-0.0
     c.from_residual-in_err-plan.ensures.1
-    (front_refused c.args.input.now parts.front.now parts.table.now c.requires.within c.in_ok-parts.ensures c.in_err-plan.field-0.0
+    (front_refused c.args.input.now parts.model.now parts.table.now c.requires.within c.in_ok-parts.ensures c.in_err-plan.field-0.0
     c.in_err-plan.ensures.refused)
 
 pub returns-in_err-verdict : goal.returns-in_err-verdict
@@ -32,5 +32,5 @@ returns-in_err-line_of c =
 pub returns : goal.returns
 returns c =
     let parts = c.in_ok-parts.parts in
-    verdict_made c.args.input.now parts.front.now parts.table.now c.requires.within c.in_ok-parts.ensures c.in_ok-plan.plan.value.system
+    verdict_made c.args.input.now parts.model.now parts.table.now c.requires.within c.in_ok-parts.ensures c.in_ok-plan.plan.value.system
     c.in_ok-plan.ensures.planned c.in_ok-verdict.verdict c.in_ok-verdict.ensures c.in_ok-line_of.field-0 c.in_ok-line_of.ensures
