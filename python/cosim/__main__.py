@@ -15,24 +15,23 @@ the words have no form, 5 where FILE can't be written, and 69 where the program 
 status of the first that ended early. A difference changes no status.
 """
 import argparse
+import importlib
 import os
 import sys
 from typing import Any, Callable, Dict, List, NamedTuple, Optional, Sequence, Tuple, Union
 
 from .errors import CosimError, UnfitValue, UnknownName
-from .files import write_at_once
+from .files import require_writable, write_at_once
 from .models import Model
 from .outcomes import Outcome
-from .program import ACCEPTED, NO_PROGRAM
+from .plots import columns_of
 from .reports import report
+from .reports.tables import drawn_columns
 from .running import Table, up_to
-from .streams import WRITE_FAULT, clean_name, note, start
+from .statuses import Status
+from .streams import clean_name, note, start, write_output
 from .traces import TIME, Trace
 from .values import seconds_of
-
-# The statuses where a file can't be read, and where the words have no form.
-NO_FILE = 1
-NO_FORM = 2
 
 # The ends of names that a picture and a page may have.
 FORMATS = (".svg", ".png", ".pdf")
@@ -40,6 +39,17 @@ PAGES = (".html",)
 
 # Leaves the time of the making out of a picture.
 METADATA: Dict[str, Dict[str, Any]] = {".svg": {"Date": None}, ".png": {}, ".pdf": {"CreationDate": None}}
+
+
+class Parser(argparse.ArgumentParser):
+    """A parser whose help ends the process by the status of a write fault where it can't be written."""
+
+    def print_help(self, file: Any = None) -> None:
+        write_output(self.format_help().rstrip("\n"))
+
+
+class Unwritable(Exception):
+    """The output can't be written."""
 
 
 class Made(NamedTuple):
@@ -51,7 +61,7 @@ class Made(NamedTuple):
 
 def read_words(words: Sequence[str]) -> argparse.Namespace:
     """The words of the call. Ends the process by status 2 where they have no form."""
-    parser = argparse.ArgumentParser(prog="python -m cosim", description="Draws models of cosim.", allow_abbrev=False)
+    parser = Parser(prog="python -m cosim", description="Draws models of cosim.", allow_abbrev=False)
     commands = parser.add_subparsers(dest="command", required=True, metavar="COMMAND")
     plot = commands.add_parser("plot", help="draws the trace of a model", allow_abbrev=False)
     plot.set_defaults(make=make_plot, what="picture", ends=FORMATS)
@@ -76,20 +86,44 @@ def read_words(words: Sequence[str]) -> argparse.Namespace:
 
 
 def make_plot(given: argparse.Namespace) -> Made:
-    """The picture of a model's trace."""
-    trace = Model.read(given.model).run(until=given.until)
+    """The picture of a model's trace. What can be judged before the run is."""
+    importlib.import_module("matplotlib.figure")
+    model = Model.read(given.model)
+    columns_of(without_rows(model), given.columns)
+    require_output(given.output)
+    trace = model.run(until=given.until)
     figure, end = trace.plot(given.columns), os.path.splitext(given.output)[1]
     return Made(lambda file: figure.savefig(file, format=end[1:], metadata=METADATA[end]), [trace.outcome])
 
 
 def make_report(given: argparse.Namespace) -> Made:
-    """The page about a model's trace."""
-    model = Model.read(given.model)
+    """The page about a model's trace. What can be judged before the runs is."""
+    importlib.import_module("plotly")
+    model, tolerance = Model.read(given.model), tolerance_of(given.tolerance or [])
+    against = None if given.against is None or is_table(given.against) else Model.read(given.against)
+    columns = without_rows(model)
+    drawn_columns(columns, given.columns)
+    columns.diff(columns if against is None else without_rows(against), tolerance)
+    require_output(given.output)
+    other = read_rows(model, given.against, given.until) if given.against is not None and against is None else None
     trace = model.run(until=given.until) if given.trace is None else read_rows(model, given.trace, given.until)
-    other = None if given.against is None else read_other(model, given.against, given.until)
+    other = other if against is None else against.run(until=given.until)
     labels = labels_of(given.trace or given.model, given.against or "")
-    page = report(model, trace, other, tolerance_of(given.tolerance or []), given.columns, labels=labels)
+    page = report(model, trace, other, tolerance, given.columns, labels=labels)
     return Made(lambda file: file.write(page), [each.outcome for each in (trace, other) if each is not None])
+
+
+def without_rows(model: Model) -> Trace:
+    """A trace of a model before it is run."""
+    return Trace.without_rows(model.system.columns, model.system.resolution)
+
+
+def require_output(path: str) -> None:
+    """Unwritable where the output couldn't be written."""
+    try:
+        require_writable(path)
+    except OSError as error:
+        raise Unwritable(error.strerror) from None
 
 
 def labels_of(mine: str, other: str) -> Tuple[str, str]:
@@ -107,11 +141,10 @@ def read_rows(model: Model, path: str, until: Optional[str]) -> Trace:
     return Trace(table, model.system.columns, trace.resolution, trace.outcome)
 
 
-def read_other(model: Model, path: str, until: Optional[str]) -> Trace:
-    """The trace that is compared: a table begins by the word `time`, and every other file is a model."""
+def is_table(path: str) -> bool:
+    """Whether a file has rows: a table begins by the word `time`, and every other file is a model."""
     with open(path, "rb") as file:
-        is_table = file.read(len(TIME) + 1) == f"{TIME},".encode()
-    return read_rows(model, path, until) if is_table else Model.read(path).run(until=until)
+        return file.read(len(TIME) + 1) == f"{TIME},".encode()
 
 
 def tolerance_of(words: Sequence[str]) -> Union[str, Dict[str, str]]:
@@ -125,30 +158,34 @@ def tolerance_of(words: Sequence[str]) -> Union[str, Dict[str, str]]:
 
 
 def main(words: Sequence[str]) -> int:
+    """Makes what the words ask for. Returns the status."""
     given = read_words(words)
     try:
         made: Made = given.make(given)
+    except Unwritable as error:
+        note(f"{clean_name(given.output)}: {error}")
+        return Status.WRITE_FAULT
     except OSError as error:
         note(f"{clean_name(error.filename or given.model)}: {error.strerror}")
-        return NO_FILE
+        return Status.NO_FILE
     except ImportError as error:
         note(f"a {given.command} requires the Python package {error.name}, which isn't there")
-        return NO_PROGRAM
+        return Status.NO_PROGRAM
     except (UnknownName, UnfitValue) as error:
         note(f"cosim: {error}")
-        return NO_FORM
+        return Status.NO_FORM
     except CosimError as error:
         note(str(error))
-        return error.status if error.status is not None else NO_PROGRAM
+        return error.status if error.status is not None else Status.NO_PROGRAM
     try:
         write_at_once(given.output, made.write)
     except OSError as error:
         note(f"{clean_name(given.output)}: {error.strerror}")
-        return WRITE_FAULT
+        return Status.WRITE_FAULT
     early = [outcome for outcome in made.outcomes if outcome.note]
     for outcome in early:
         note(outcome.note)
-    return next((outcome.status for outcome in early if outcome.status), ACCEPTED)
+    return next((outcome.status for outcome in early if outcome.status), Status.ACCEPTED)
 
 
 if __name__ == "__main__":

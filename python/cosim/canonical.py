@@ -2,8 +2,9 @@
 from typing import Callable, Dict, Iterable, List, NamedTuple, Optional, Sequence, Tuple
 
 from . import nests
-from .program import ACCEPTED, ask
+from .program import ask
 from .repository import LONGEST_TEXT
+from .statuses import Status
 from .streams import note, read_input, write_output
 
 
@@ -120,13 +121,13 @@ def run(document: Optional[str], words: Sequence[str], lines_of: Callable[[Syste
     usage = (document or "").strip()
     if list(words) in (["--help"], ["-h"], ["help"]):
         write_output(usage)
-        return ACCEPTED
+        return Status.ACCEPTED
     if words:
         note(usage)
-        return 2
+        return Status.NO_FORM
     answer = ask("print", read_input(LONGEST_TEXT))
     if answer.line is not None:
         note(f"cosim: line {answer.line}: rule {answer.rule}")
-    if answer.status == ACCEPTED:
+    if answer.status == Status.ACCEPTED:
         write_output("\n".join(lines_of(read_system(answer.output))))
     return answer.status

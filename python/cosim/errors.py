@@ -3,12 +3,9 @@ from typing import Optional, Tuple
 
 from .documents import page
 from .explain.refusals import advice
-from .program import REFUSED, Called
+from .program import Called
 from .sources import FileLine, Source
-from .streams import READ_FAULT, WRITE_FAULT
-
-NO_MEMORY = 1
-USAGE = 2
+from .statuses import Status
 
 # The rule of the length of a text, which no single file of a joined text breaks.
 LENGTH = 2
@@ -100,17 +97,17 @@ def refused(text: bytes, line: int, rule: int, note: str, source: Source) -> Ref
     if source.is_joined:
         named = origin.line if origin else None
     file = origin.file if origin else source.file
-    return Refused(message, REFUSED, note, named, rule, found.title, found.cure, found.details, file)
+    return Refused(message, Status.REFUSED, note, named, rule, found.title, found.cure, found.details, file)
 
 
 def failed(called: Called, shown: str) -> ProgramFailed:
     """The exception for a call that gave no answer; `shown` is the call as it can be shown."""
     status, note = called.status, called.note
-    if status == NO_MEMORY:
+    if status == Status.NO_MEMORY:
         return NoMemory(f"{shown}: no memory", status, note)
-    if status == USAGE:
+    if status == Status.NO_FORM:
         return ProgramFailed(f"{shown}: these words have no form", status, note)
-    if status in (READ_FAULT, WRITE_FAULT):
+    if status in (Status.READ_FAULT, Status.WRITE_FAULT):
         return ProgramFailed(f"{shown}: a stream failed: {note}", status, note)
     if status > 128:
         return ProgramFailed(f"{shown}: signal {status - 128} ended the program", status, note)

@@ -1,19 +1,14 @@
 """The command tools/format."""
-import errno
-import os
-import tempfile
-from typing import List, NamedTuple, Optional, Sequence
+from typing import NamedTuple, Optional, Sequence
 
 from .explain.inputs import has_groups
+from .files import write_at_once
 from .formatting import format_text
 from .lines import is_part, placed_lines
-from .program import ACCEPTED, REFUSED, ask
+from .program import ask
 from .repository import LONGEST_TEXT
-from .streams import READ_FAULT, WRITE_FAULT, clean_name, note, read_at_most, read_input, write_output
-
-# The statuses where a file would be changed, and where words have no form.
-WOULD_CHANGE = 1
-NO_FORM = 2
+from .statuses import Status
+from .streams import clean_name, files_of, note, read_at_most, read_input, write_output
 
 CHECK = "--check"
 
@@ -25,7 +20,7 @@ class Formatted(NamedTuple):
     """A formatted text; or none, with the status and the reason."""
 
     text: Optional[bytes]
-    status: int = ACCEPTED
+    status: int = Status.ACCEPTED
     reason: str = ""
 
 
@@ -49,14 +44,14 @@ def format_safely(text: bytes) -> Formatted:
         before = ask(command, text + rest)
     if before.line is not None:
         return Formatted(None, before.status, f"it is refused at line {before.line} by rule {before.rule}, and isn't formatted")
-    if before.status != ACCEPTED:
+    if before.status != Status.ACCEPTED:
         return Formatted(None, before.status, "it isn't formatted")
     formatted = format_text(text)
     after = ask(command, formatted + rest)
     if after.line is not None:
-        return Formatted(None, REFUSED, f"formatted it would break rule {after.rule} at line {after.line}, so it stays as it is")
+        return Formatted(None, Status.REFUSED, f"formatted it would break rule {after.rule} at line {after.line}, so it stays as it is")
     if (after.status, after.output) != (before.status, before.output):
-        return Formatted(None, REFUSED, "formatted it would be another model, so it stays as it is")
+        return Formatted(None, Status.REFUSED, "formatted it would be another model, so it stays as it is")
     return Formatted(formatted)
 
 
@@ -68,9 +63,9 @@ def format_input(is_check: bool) -> int:
         note(f"standard input: {formatted.reason}")
         return formatted.status
     if is_check:
-        return WOULD_CHANGE if formatted.text != text else ACCEPTED
+        return Status.WOULD_CHANGE if formatted.text != text else Status.ACCEPTED
     write_output(formatted.text)
-    return ACCEPTED
+    return Status.ACCEPTED
 
 
 def format_file(path: str, is_check: bool) -> int:
@@ -81,59 +76,42 @@ def format_file(path: str, is_check: bool) -> int:
             text = read_at_most(file, LONGEST_TEXT)
     except (OSError, ValueError) as error:
         note(f"{name}: {getattr(error, 'strerror', None) or error}")
-        return READ_FAULT
+        return Status.READ_FAULT
     formatted = format_safely(text)
     if formatted.text is None:
         note(f"{name}: {formatted.reason}")
         return formatted.status
     if formatted.text == text:
-        return ACCEPTED
+        return Status.ACCEPTED
     if is_check:
         write_output(f"{name}: would be formatted")
-        return WOULD_CHANGE
+        return Status.WOULD_CHANGE
     return replace(path, formatted.text)
 
 
 def replace(path: str, text: bytes) -> int:
-    """Writes a file in place of another one at once, so that no reader sees a part of it. A symbolic link stays one.
-
-    A file with several names, or of another owner, is written in place, so that it keeps both. One that may not be written stays
-    as it is.
-    """
-    name, path = clean_name(path), os.path.realpath(path)
-    new = ""
+    """Writes a text in place of a file, which stays as it is where that fails. Returns the status."""
     try:
-        if not os.access(path, os.W_OK):
-            raise PermissionError(errno.EACCES, os.strerror(errno.EACCES))
-        status = os.stat(path)
-        if status.st_nlink > 1 or (status.st_uid, status.st_gid) != (os.geteuid(), os.getegid()):
-            with open(path, "wb") as file:
-                file.write(text)
-            return ACCEPTED
-        with tempfile.NamedTemporaryFile(dir=os.path.dirname(path), prefix=".format-", delete=False) as file:
-            new = file.name
-            file.write(text)
-        os.chmod(new, status.st_mode & 0o7777)
-        os.replace(new, path)
+        write_at_once(path, lambda file: file.write(text))
     except OSError as error:
-        note(f"{name}: {error.strerror}; it stays as it is")
-        if new and os.path.exists(new):
-            os.remove(new)
-        return WRITE_FAULT
-    return ACCEPTED
+        note(f"{clean_name(path)}: {error.strerror}; it stays as it is")
+        return Status.WRITE_FAULT
+    return Status.ACCEPTED
 
 
 def main(document: str, words: Sequence[str]) -> int:
+    """Formats files in place, or standard input to standard output. Returns the status."""
     if list(words) in (["help"], ["--help"], ["-h"]):
         write_output(document.strip())
-        return ACCEPTED
-    is_check = CHECK in words
-    paths: List[str] = list(words)
+        return Status.ACCEPTED
+    others = list(words)
+    is_check = CHECK in others[: others.index("--") if "--" in others else None]
     if is_check:
-        paths.remove(CHECK)
-    if any(path.startswith("-") for path in paths):
+        others.remove(CHECK)
+    paths = files_of(others)
+    if paths is None:
         note(document.strip())
-        return NO_FORM
+        return Status.NO_FORM
     if not paths:
         return format_input(is_check)
     return max(format_file(path, is_check) for path in paths)

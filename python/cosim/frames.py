@@ -20,7 +20,7 @@ is rounded to N decimals, which is sure for words up to 2^52. Each value is comp
 error InexactFloat. `frame.attrs["floats"]` has the names of the columns that became floats.
 """
 from decimal import Decimal
-from typing import List, Optional, Sequence, Union
+from typing import Iterable, List, Optional, Union
 
 import pandas
 
@@ -29,7 +29,7 @@ from .traces import INDEX, TIME, Trace
 from .values import Value, decimals_of, exact
 
 
-def frame_of(trace: Trace, floats: Union[bool, Sequence[str]]) -> pandas.DataFrame:
+def frame_of(trace: Trace, floats: Union[bool, Iterable[str]]) -> pandas.DataFrame:
     """The frame of a trace. UnknownName where `floats` names no column, UnfitValue where one can't become floats."""
     names = floats_of(trace, floats)
     data = {INDEX: pandas.array(trace.index, dtype="int64")}
@@ -40,17 +40,18 @@ def frame_of(trace: Trace, floats: Union[bool, Sequence[str]]) -> pandas.DataFra
     return frame
 
 
-def floats_of(trace: Trace, floats: Union[bool, Sequence[str]]) -> List[str]:
+def floats_of(trace: Trace, floats: Union[bool, Iterable[str]]) -> List[str]:
     """The names of the columns that become floats."""
     if isinstance(floats, str):
         raise UnfitValue(f"floats: {floats!r} is one name; write [{floats!r}]")
     if isinstance(floats, bool):
         fixed = [column.name for column in trace.columns if decimals_of(column.type) is not None]
         return ([TIME] if trace.resolution else []) + fixed if floats else []
-    for name in floats:
+    names = list(floats)
+    for name in names:
         if name != TIME and trace.column(name).type == "Bool":
             raise UnfitValue(f"floats: the column {name} has truth values")
-    return list(floats)
+    return names
 
 
 def index_of(trace: Trace, as_floats: bool) -> pandas.Index:

@@ -245,8 +245,8 @@ PARTS.update({"e": read_expression, NEEDS: Reader.names})
 
 
 def form_of(text: str) -> Form:
-    front, needs, rest = text.partition(NEEDS)
-    return Form(text, tuple(TOKEN.findall(front)) + ((needs,) if needs else ()) + tuple(TOKEN.findall(rest)))
+    before, needs, rest = text.partition(NEEDS)
+    return Form(text, tuple(TOKEN.findall(before)) + ((needs,) if needs else ()) + tuple(TOKEN.findall(rest)))
 
 
 @functools.lru_cache(maxsize=None)

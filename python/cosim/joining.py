@@ -4,7 +4,7 @@ Each file is a text with a header, with groups or without. The joined text has t
 groups, the header, the units in the order of the files, and then the system.
 """
 import os
-from typing import Iterable, Iterator, List, NamedTuple, Sequence, Tuple, Union
+from typing import Dict, Iterable, Iterator, List, NamedTuple, Sequence, Tuple
 
 from .errors import Unjoinable
 from .explain.inputs import has_groups
@@ -14,9 +14,7 @@ from .program import call, read_refusal
 from .repository import LONGEST_TEXT
 from .running import judge, start_failed
 from .sources import FileLine, Source, Span
-from .streams import clean_name, read_at_most
-
-Path = Union[str, "os.PathLike[str]"]
+from .streams import Path, clean_name, read_file
 
 # The rules of the lines of a text, which each file has to keep by itself. All others are judged in the joined text.
 OF_LINES = (*range(1, 8), 26)
@@ -65,28 +63,15 @@ def join(paths: Iterable[Path]) -> Model:
     """
     if isinstance(paths, (str, bytes, os.PathLike)):
         raise TypeError("join takes a list of paths")
-    joined = join_texts([(os.fspath(path), read_file(os.fspath(path))) for path in paths])
+    joined = join_texts([(path, read_file(path, LONGEST_TEXT)) for path in map(os.fsdecode, paths)])
     model = Model(joined.text, source=joined.source)
     model.check()
     return model
 
 
-def read_file(path: str) -> bytes:
-    """The bytes of a file. OSError with its name where it can't be read."""
-    try:
-        with open(path, "rb") as file:
-            return read_at_most(file, LONGEST_TEXT)
-    except OSError as error:
-        error.filename = path
-        raise
-
-
 def join_texts(texts: Sequence[Tuple[str, bytes]]) -> Joined:
     """Joins texts, each with its path. Of the result only the rules of lines are judged. Raises as `join`."""
-    paths = [path for path, _ in texts]
-    for path in paths:
-        if paths.count(path) > 1:
-            raise Unjoinable(f"{clean_name(path)} is given twice")
+    require_different([path for path, _ in texts])
     parts = [read_part(path, text) for path, text in texts]
     system = find_system(parts)
     check_versions(parts)
@@ -96,6 +81,21 @@ def join_texts(texts: Sequence[Tuple[str, bytes]]) -> Joined:
     others = len(parts) - 1
     name = clean_name(system.path) + (f", joined with {others} file{'s' if others > 1 else ''}" if others else "")
     return Joined(text, Source(name, None, spans))
+
+
+def require_different(paths: Iterable[str]) -> None:
+    """Unjoinable where two paths are of one file, whose units would be declared twice."""
+    seen: Dict[object, str] = {}
+    for path in paths:
+        try:
+            status = os.stat(path)
+            identity: object = (status.st_dev, status.st_ino)
+        except OSError:
+            identity = path
+        if identity in seen:
+            other = "" if seen[identity] == path else f", once as {clean_name(seen[identity])}"
+            raise Unjoinable(f"{clean_name(path)} is given twice{other}")
+        seen[identity] = path
 
 
 def read_part(path: str, text: bytes) -> Part:

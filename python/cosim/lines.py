@@ -90,7 +90,7 @@ class Placed(NamedTuple):
 
 
 def placed_lines(text: bytes) -> Iterator[Placed]:
-    """The lines of a text, with groups or without. Behind a line that breaks a rule the blocks may be others than were
+    """The lines of a text, with groups or without. After a line that breaks a rule the blocks may be others than were
     meant."""
     blocks: List[str] = []
     lines = [texts_of(line) for line in split_lines(text)]

@@ -9,18 +9,27 @@ from typing import Dict, Iterable, Iterator, List, Mapping, Optional, Sequence, 
 from .canonical import Instance, Port, System, Unit, Variable, read_system
 from .errors import CosimError, UnfitValue, UnknownName
 from .explain.inputs import has_groups
+from .explain.positions import row_budget
 from .nests import read_nest
 from .outcomes import STOPPED, Outcome
-from .program import ACCEPTED, Called
+from .program import Called
+from .repository import LONGEST_SAVED, LONGEST_TEXT
 from .running import Table, Watch, ask_program, judge, read_trace, started, trace_of, watch_of
 from .settings import literal_of_stop, nearest, paths_of, set_in_instance, set_in_unit, value_of_literal
 from .sources import FileLine, Source
-from .traces import Row, Trace
+from .statuses import Status
+from .streams import Path, read_at_most, read_file
+from .traces import Row, Trace, header_of, require_header
 from .values import Given, Seconds, Value, literal_of, seconds_of, value_of_word
 
-WHOLE = rb"(0|[1-9]\d*)"
+# The most bytes of a field of a trace with its comma: a sign, twenty digits and a point; and of what ends a line, after a
+# byte-order mark perhaps.
+LONGEST_FIELD = 23
+LONGEST_END = 5
+
+WHOLE = rb"(0|[1-9]\d{0,15})"
 POSITION = re.compile(
-    rb"saved 1\r?\nrow " + WHOLE + rb"\r?\nat " + WHOLE + rb" " + WHOLE + rb"\r?\n((?:state \w+(?: -?\d+)*\r?\n)*)(?!state )"
+    rb"saved 1\r?\nrow " + WHOLE + rb"\r?\nat " + WHOLE + rb" " + WHOLE + rb"\r?\n((?:state \w+(?: -?\d{1,20})*\r?\n)*)(?!state )"
 )
 
 
@@ -52,10 +61,10 @@ class Saved:
 
     @classmethod
     def from_text(cls, text: Union[str, bytes], name: str = "saved text") -> "Saved":
-        """The position that a saved text has. Refused where it has none."""
-        data = text.encode() if isinstance(text, str) else text
+        """The position that a saved text has. Refused where it has none or is too long, and TypeError where it is no text."""
+        data = bytes_of(text)
         found = POSITION.match(data)
-        if not found:
+        if not found or len(data) > LONGEST_SAVED:
             ask_program(["resume"], data, Source(name))
             raise UnfitValue(f"{name}: it has no position")
         lines = [line.split() for line in found[4].decode().splitlines()]
@@ -63,9 +72,9 @@ class Saved:
         return cls(data, int(found[1]), int(found[2]), int(found[3]), words, Model(data[found.end() :], name))
 
     @classmethod
-    def read(cls, path: Union[str, "os.PathLike[str]"]) -> "Saved":
-        with open(path, "rb") as file:
-            return cls.from_text(file.read(), os.fspath(path))
+    def read(cls, path: Path) -> "Saved":
+        """The position that a file has. OSError where it can't be read, and Refused where it has none."""
+        return cls.from_text(read_file(path, LONGEST_SAVED), os.fsdecode(path))
 
     @property
     def position(self) -> bytes:
@@ -104,21 +113,19 @@ class Model:
         self._components: Optional[Dict[str, str]] = None
 
     @classmethod
-    def read(cls, path: Union[str, "os.PathLike[str]"]) -> "Model":
-        """The model in a file. OSError where it can't be read."""
-        with open(path, "rb") as file:
-            return cls(file.read(), source=source_of(path))
+    def read(cls, path: Path) -> "Model":
+        """The model in a file. OSError where it can't be read. Of a file that is too long so much is read that it is refused."""
+        return cls(read_file(path, LONGEST_TEXT), source=source_of(path))
 
     @classmethod
     def from_text(cls, text: Union[str, bytes], name: str = "model") -> "Model":
-        """The model of a text."""
-        return cls(text.encode() if isinstance(text, str) else text, name)
+        """The model of a text. TypeError where it is none."""
+        return cls(bytes_of(text), name)
 
     @classmethod
     def stimulus(cls, table: Union[str, bytes], name: str = "table") -> "Model":
         """The model that plays a table, as `cosim stimulus` makes it. Refused where the table has another form."""
-        data = table.encode() if isinstance(table, str) else table
-        return cls(ask_program(["stimulus"], data, Source(name)), name)
+        return cls(ask_program(["stimulus"], bytes_of(table), Source(name)), name)
 
     @property
     def has_groups(self) -> bool:
@@ -241,8 +248,11 @@ class Model:
         return self.edited(lines)
 
     def set_stop(self, seconds: Seconds) -> "Model":
-        """This model with another stop, in seconds. The run judges whether it is a whole number of ticks (rule 20)."""
-        literal = literal_of_stop(seconds)
+        """This model with another stop, in seconds: from 0 to 10^15 ticks, and with at most nine decimals, or else UnfitValue.
+
+        The run judges whether it is a whole number of ticks (rule 20).
+        """
+        literal = literal_of_stop(seconds, self.system.resolution)
         lines = self.canonical.splitlines()
         place = next(number for number, line in enumerate(lines) if line.startswith(b"stop "))
         lines[place] = b"stop " + literal.encode()
@@ -300,14 +310,15 @@ class Model:
             for piece in begun.pieces():
                 if not piece.endswith(b"\n"):
                     break
-                trace = trace_of(Called(ACCEPTED, piece, b""), table._replace(has_header=is_header), Outcome(STOPPED))
+                trace = trace_of(Called(Status.ACCEPTED, piece, b""), table._replace(has_header=is_header), Outcome(STOPPED))
                 is_header = False
                 yield from trace
             called = begun.finish()
         trace_of(judge(called, words, text, self.source_of_runnable), table).require_completed()
 
     def save(self, row: int) -> Saved:
-        """The position of the run at a row, from 0. UnknownName where the trace has none of this number."""
+        """The position of the run at a row, from 0 to 99,999: UnfitValue out of that range, UnknownName where the trace has no such
+        row."""
         words = ["save", "--row", str(row)]
         try:
             text = ask_program(words, self.runnable, self.source_of_runnable)
@@ -318,7 +329,11 @@ class Model:
         return Saved.from_text(text, self.name)
 
     def state_at(self, row: int) -> Dict[str, Dict[str, Value]]:
-        """The value of each state at a row, from 0, by component and state: `state_at(2)["plate"]["temperature"]`."""
+        """The value of each state at a row, from 0, by component and state: `state_at(2)["plate"]["temperature"]`.
+
+        Components have their names of `instances`, as "power_battery" within groups; `components` has that of the path
+        "power.battery". UnknownName and UnfitValue as by `save`.
+        """
         return self.save(row).states
 
     def resume(self, saved: Union[Saved, str, bytes]) -> Trace:
@@ -334,37 +349,68 @@ class Model:
         """Whether a trace, or a table, is the trace of this model; the program makes the trace again."""
         if isinstance(trace, Trace) and not trace.has_header:
             raise UnfitValue("a trace of resume isn't a whole trace, which verify requires")
-        table = trace.table if isinstance(trace, Trace) else trace.encode() if isinstance(trace, str) else trace
+        table = trace.table if isinstance(trace, Trace) else bytes_of(trace)
         answer = ask_program(["verify"], self.canonical + b"trace\n" + table, Source(self.name)).split()
         if answer[0] == b"yes":
             return Verdict(True)
         return Verdict(False, int(answer[1]), int(answer[2]))
 
     def replay(self, seed: int, workers: int) -> Trace:
-        """The trace by drawn events of workers; `Trace.counts` has their counts."""
+        """The trace by events of simulated workers, which are drawn from a seed; `Trace.counts` has their counts.
+
+        `seed` is from 0 to 10^19 - 1, and `workers` from 0 to 16: UnfitValue where one isn't. Refused where the model breaks a rule.
+        """
         words = ["replay", "--seed", str(seed), "--workers", str(workers)]
         return read_trace(words, self.runnable, self.source_of_runnable, self.table())
 
     def nodes(self, seed: int, rounds: int) -> Trace:
         """The rows that node 0 of two commits in so many rounds; `Trace.counts` has the rows of "node 0" and "node 1".
 
-        The outcome is "stopped" where node 0 hasn't come to the stop.
+        `seed` is from 0 to 10^19 - 1, and `rounds` from 1 to 100,000: UnfitValue where one isn't. Refused where the model breaks a
+        rule. The outcome is "stopped" where node 0 hasn't come to the stop.
         """
         words = ["nodes", "--seed", str(seed), "--rounds", str(rounds)]
         trace = read_trace(words, self.runnable, self.source_of_runnable, self.table())
         if trace.outcome.completed and (not trace.records or trace.time[-1] != self.stop):
-            trace.outcome = Outcome(STOPPED, ACCEPTED)
+            trace.outcome = Outcome(STOPPED, Status.ACCEPTED)
         return trace
 
-    def read_trace(self, path: Union[str, "os.PathLike[str]"]) -> Trace:
-        """The trace of this model that a file has, as `run` wrote it. Its outcome is "unknown"."""
+    def read_trace(self, path: Path) -> Trace:
+        """The trace of this model that a file has, as `run` wrote it. Its outcome is "unknown".
+
+        OSError where the file can't be read, Refused where the model breaks a rule, and UnfitValue where the file has another
+        header, is longer than a trace of this model may be, or has a line that no trace has: another number of fields, a value
+        in another form or out of the range of its type, or a point that isn't after the one before it.
+        """
+        system, name = self.system, os.fsdecode(path)
+        header, limit = header_of(system.columns), longest_table(system)
         with open(path, "rb") as file:
-            return Trace.of_table(file.read(), self.system.columns, self.system.resolution, os.fspath(path))
+            first = file.readline(len(header) + LONGEST_END)
+            require_header(first.decode("utf-8", "replace").splitlines(), header, name)
+            table = first + read_at_most(file, limit)
+        if len(table) > limit:
+            raise UnfitValue(f"{name}: it is longer than a trace of this model, which has at most {row_budget(system)} rows")
+        return Trace.of_table(table, system.columns, system.resolution, name)
 
 
-def source_of(path: Union[str, "os.PathLike[str]"]) -> Source:
+def longest_table(system: System) -> int:
+    """A number of bytes that no trace of a system is longer than."""
+    columns = len(system.columns) + 2
+    return len(header_of(system.columns)) + LONGEST_END + row_budget(system) * (columns * LONGEST_FIELD + LONGEST_END)
+
+
+def bytes_of(text: Union[str, bytes]) -> bytes:
+    """The bytes of a text. TypeError where it is none."""
+    if isinstance(text, str):
+        return text.encode()
+    if isinstance(text, (bytes, bytearray)):
+        return bytes(text)
+    raise TypeError(f"a text is str or bytes, and not {type(text).__name__}")
+
+
+def source_of(path: Path) -> Source:
     """The source of a text that a file has."""
-    return Source(os.fspath(path), os.fspath(path))
+    return Source(os.fsdecode(path), os.fsdecode(path))
 
 
 def run_words(workers: int, window: Optional[int], guess: Optional[str]) -> List[str]:

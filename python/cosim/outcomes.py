@@ -5,7 +5,8 @@ from fractions import Fraction
 from typing import Dict, Optional, Tuple
 
 from .errors import CosimError, title_of_fault
-from .program import ACCEPTED, Called
+from .program import Called
+from .statuses import Status
 
 COMPLETED = "completed"
 ROW_BUDGET = "row budget"
@@ -19,10 +20,10 @@ POINT = r"(?P<time>[\d.]+),(?P<index>\d+)"
 
 # Of each status of a run that ends early, what it is called and the form of its note.
 ENDS: Dict[int, Tuple[str, "re.Pattern[str]"]] = {
-    6: (ZERO_BUDGET, re.compile(rf"cosim: zero budget at {POINT}")),
-    7: (ROW_BUDGET, re.compile(rf"cosim: row budget at {POINT}")),
-    8: (FAULT, re.compile(rf"cosim: fault (?P<fault>\d+) of (?P<component>\w+) (?P<place>output \w+|max|step) at {POINT}")),
-    9: (STEP_REFUSED, re.compile(rf"cosim: (?P<component>\w+) refused (?P<asked>\d+), accepted (?P<accepted>\d+), at {POINT}")),
+    Status.ZERO_BUDGET: (ZERO_BUDGET, re.compile(rf"cosim: zero budget at {POINT}")),
+    Status.ROW_BUDGET: (ROW_BUDGET, re.compile(rf"cosim: row budget at {POINT}")),
+    Status.FAULT: (FAULT, re.compile(rf"cosim: fault (?P<fault>\d+) of (?P<component>\w+) (?P<place>output \w+|max|step) at {POINT}")),
+    Status.STEP_REFUSED: (STEP_REFUSED, re.compile(rf"cosim: (?P<component>\w+) refused (?P<asked>\d+), accepted (?P<accepted>\d+), at {POINT}")),
 }
 
 # Counts in a note, as `events 16 refused 4` and `node 0 row 3, node 1 row 3`.
@@ -95,8 +96,8 @@ EXCEPTIONS = {ROW_BUDGET: RowBudgetSpent, ZERO_BUDGET: ZeroBudgetSpent, FAULT: F
 def outcome_of(called: Called) -> Optional[Outcome]:
     """The outcome that the status and the first note of a call say, if it is that of a run."""
     note = called.note.split("\n")[0]
-    if called.status == ACCEPTED:
-        return Outcome(COMPLETED, ACCEPTED)
+    if called.status == Status.ACCEPTED:
+        return Outcome(COMPLETED, Status.ACCEPTED)
     if called.status not in ENDS:
         return None
     kind, form = ENDS[called.status]

@@ -29,11 +29,7 @@ def plot(trace: Trace, names: Optional[Sequence[str]] = None, figure: Any = None
     """
     from matplotlib.figure import Figure
 
-    if isinstance(names, str):
-        raise UnfitValue(f"names: {names!r} is one name; write [{names!r}]")
-    columns = [trace.column(name) for name in (trace.names if names is None else names)]
-    if not 1 <= len(columns) <= MOST_COLUMNS:
-        raise UnfitValue(f"{len(columns)} columns can't be drawn; name 1 to {MOST_COLUMNS}")
+    columns = columns_of(trace, names)
     figure = figure or Figure(figsize=(WIDTH, AROUND + HEIGHT * len(columns)), layout="constrained")
     all_axes = figure.subplots(len(columns), 1, sharex=True, squeeze=False)[:, 0]
     times = [float(time) for time in trace.time]
@@ -44,6 +40,16 @@ def plot(trace: Trace, names: Optional[Sequence[str]] = None, figure: Any = None
             axes.axvline(time, color=LINE, linewidth=0.8, linestyle=":")
     all_axes[-1].set_xlabel("seconds")
     return figure
+
+
+def columns_of(trace: Trace, names: Optional[Sequence[str]]) -> List[Column]:
+    """The columns that are drawn. UnknownName where there is no such one, and UnfitValue where there is none or too many."""
+    if isinstance(names, str):
+        raise UnfitValue(f"names: {names!r} is one name; write [{names!r}]")
+    columns = [trace.column(name) for name in (trace.names if names is None else names)]
+    if not 1 <= len(columns) <= MOST_COLUMNS:
+        raise UnfitValue(f"{len(columns)} columns can't be drawn; name 1 to {MOST_COLUMNS}")
+    return columns
 
 
 def draw(axes: Any, trace: Trace, column: Column, times: List[float]) -> None:

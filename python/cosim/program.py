@@ -10,14 +10,19 @@ import tempfile
 from typing import BinaryIO, Iterable, Iterator, List, NamedTuple, Optional, Sequence
 
 from .repository import REPOSITORY
+from .statuses import Status
 from .streams import note
 
-# The statuses of the program where a text is accepted and where it is refused; and that of ./cosim where there is no program.
-ACCEPTED = 0
-REFUSED = 3
-NO_PROGRAM = 69
-
 REFUSAL = re.compile(rb"cosim: line (\d+): rule (\d+)\n")
+
+# How the whole output of a command begins that ends with status 0.
+OUTPUTS = {
+    **dict.fromkeys(("print", "flatten", "upgrade", "stimulus"), rb"cosim "),
+    "check": rb"accepted\n",
+    "save": rb"saved ",
+    "verify": rb"yes|no",
+    "resume": rb"\d",
+}
 
 # How many bytes of an output are read at once.
 PIECE = 1 << 16
@@ -32,6 +37,12 @@ def program() -> str:
     return os.path.join(REPOSITORY, "cosim") if REPOSITORY else shutil.which("cosim") or "cosim"
 
 
+def is_script(named: str) -> bool:
+    """Whether a program is the script ./cosim of a repository, which may build a program."""
+    folder = os.path.dirname(os.path.realpath(named))
+    return os.path.basename(named) == "cosim" and os.path.exists(os.path.join(folder, "tools", "sources.bash"))
+
+
 @functools.lru_cache(maxsize=None)
 def started_by(script: str) -> str:
     """The program that a script ./cosim starts; of another program itself.
@@ -39,9 +50,9 @@ def started_by(script: str) -> str:
     The script computes checksums at each start, which takes longer than a short run. It also builds a program that isn't
     there, which takes an hour: a call from here is an error instead, OSError with the reason.
     """
-    folder = os.path.dirname(os.path.realpath(script))
-    if os.path.basename(script) != "cosim" or not os.path.exists(os.path.join(folder, "tools", "sources.bash")):
+    if not is_script(script):
         return script
+    folder = os.path.dirname(os.path.realpath(script))
     find = 'here=$1; source "$here/tools/sources.bash"; find_program'
     words = ["bash", "-pc", find, "bash", folder]
     found = subprocess.run(words, stdin=subprocess.DEVNULL, stdout=subprocess.PIPE, stderr=subprocess.DEVNULL, check=False)
@@ -120,6 +131,18 @@ def call(words: Sequence[str], text: bytes) -> Called:
     return begun.finish(b"".join(pieces))
 
 
+def is_foreign(command: str, called: Called) -> bool:
+    """Whether the program that gave an answer isn't cosim. It is asked about an empty text where the answer isn't one of cosim."""
+    if called.status == Status.ACCEPTED:
+        is_usual = bool(re.match(OUTPUTS.get(command, b""), called.output))
+    else:
+        is_usual = called.notes.startswith(b"cosim: ") or called.status == Status.NO_PROGRAM or called.status > 128
+    if is_usual:
+        return False
+    asked = call(["check"], b"")
+    return asked.status != Status.REFUSED or read_refusal(asked.notes) is None
+
+
 class Answer(NamedTuple):
     """What the program answered; of a text that is refused the line and the rule, else None for both."""
 
@@ -133,16 +156,26 @@ def ask(command: str, text: bytes) -> Answer:
     """Calls the program with a text as its input. Its notes go to standard error, but for a refusal's, which is part of the
     answer."""
     try:
-        with tempfile.TemporaryFile() as given, tempfile.TemporaryFile() as output:
-            given.write(text)
-            given.seek(0)
-            with subprocess.Popen([program(), command], stdin=given, stdout=output, stderr=subprocess.PIPE) as asked:
-                assert asked.stderr
-                refusal = read_notes(asked.stderr)
-            output.seek(0)
-            return answered(asked.returncode, output.read(), refusal)
+        if is_script(program()):
+            return ask_script(command, text)
+        called = call([command], text)
+        if is_foreign(command, called):
+            return not_cosim()
     except OSError as error:
         return no_program(error)
+    return answered(called.status, called.output, read_notes(called.notes.splitlines(True)))
+
+
+def ask_script(command: str, text: bytes) -> Answer:
+    """As `ask`, of a script: notes go to standard error as they come, since a build has many. OSError where it can't start."""
+    with tempfile.TemporaryFile() as given, tempfile.TemporaryFile() as output:
+        given.write(text)
+        given.seek(0)
+        with subprocess.Popen([program(), command], stdin=given, stdout=output, stderr=subprocess.PIPE) as asked:
+            assert asked.stderr
+            refusal = read_notes(asked.stderr)
+        output.seek(0)
+        return answered(asked.returncode, output.read(), refusal)
 
 
 def ask_first_byte(command: str, text: bytes) -> Answer:
@@ -158,17 +191,24 @@ def ask_first_byte(command: str, text: bytes) -> Answer:
                 assert asked.stdout
                 first = asked.stdout.read(1)
                 asked.stdout.close()
-            if first:
-                return Answer(ACCEPTED, first)
             notes.seek(0)
-            return answered(asked.returncode, first, read_notes(notes))
+            status = Status.ACCEPTED if first else status_of(asked.returncode)
+            called = Called(status, first, b"" if first else notes.read())
+        if is_foreign(command, called):
+            return not_cosim()
+        return answered(called.status, first, read_notes(called.notes.splitlines(True)))
     except OSError as error:
         return no_program(error)
 
 
 def no_program(error: OSError) -> Answer:
     note(f"{program()}: {error.strerror}")
-    return Answer(NO_PROGRAM, b"")
+    return Answer(Status.NO_PROGRAM, b"")
+
+
+def not_cosim() -> Answer:
+    note(f"{program()}: it isn't cosim")
+    return Answer(Status.NO_PROGRAM, b"")
 
 
 def read_refusal(notes: bytes) -> Optional["re.Match[bytes]"]:

@@ -7,14 +7,13 @@ from typing import Callable, Iterator, List, NamedTuple, Optional, Sequence, Uni
 from .canonical import System
 from .errors import NoProgram, UnfitValue, failed, refused
 from .outcomes import STOPPED, Outcome, counts_of, outcome_of
-from .program import ACCEPTED, NO_PROGRAM, Call, Called, call, program, read_refusal
+from .program import Call, Called, call, is_foreign, program, read_refusal
 from .progress import bar
 from .repository import read_document
 from .sources import Source
+from .statuses import Status
 from .traces import Trace
 from .values import ticks_of
-
-USAGE = 2
 
 # Is called with the time of the last row that came and the stop, in seconds. Where it returns True the run is stopped.
 Watch = Callable[[Fraction, Fraction], Optional[bool]]
@@ -41,7 +40,7 @@ def shown(words: Sequence[str]) -> str:
 
 def start_failed(error: OSError) -> NoProgram:
     message = f"the program {program()} can't be started: {error.strerror}. The variable COSIM names another"
-    return NoProgram(message, NO_PROGRAM, "")
+    return NoProgram(message, Status.NO_PROGRAM, "")
 
 
 def options_of(command: str) -> str:
@@ -55,11 +54,14 @@ def judge(called: Called, words: Sequence[str], text: bytes, source: Source) -> 
     refusal = read_refusal(called.notes)
     if refusal:
         raise refused(text, int(refusal[1]), int(refusal[2]), called.note, source)
-    if called.status == USAGE:
-        raise UnfitValue(f"{shown(words)} has no form; the options are: {options_of(words[0])}", USAGE, called.note)
-    if called.status == NO_PROGRAM:
+    if is_foreign(words[0], called):
+        message = f"the program {program()} isn't cosim. The variable COSIM names another"
+        raise NoProgram(message, Status.NO_PROGRAM, called.note)
+    if called.status == Status.NO_FORM:
+        raise UnfitValue(f"{shown(words)} has no form; the options are: {options_of(words[0])}", Status.NO_FORM, called.note)
+    if called.status == Status.NO_PROGRAM:
         raise NoProgram(called.note, called.status, called.note)
-    if called.status != ACCEPTED and outcome_of(called) is None:
+    if called.status != Status.ACCEPTED and outcome_of(called) is None:
         raise failed(called, shown(words))
     return called
 

@@ -6,8 +6,9 @@ from .errors import UnfitValue
 from .nests import Nest, Part
 from .values import Seconds, Value, exact, seconds_of, value_of_word, word_of
 
-# The most decimals of a second.
+# The most decimals of a second, and the most ticks of a run.
 FINEST = 9
+MOST_TICKS = 10**15
 
 
 def paths_of(nest: Nest, part: Part, path: Tuple[str, ...]) -> Iterator[Tuple[str, ...]]:
@@ -39,11 +40,17 @@ def set_in_unit(lines: List[bytes], unit: str, parameter: str, type_name: str, l
     lines[place] = start + literal.encode()
 
 
-def literal_of_stop(seconds: Seconds) -> str:
-    """A time in seconds as a `stop` line has it. UnfitValue where it has too many decimals."""
-    scaled = seconds_of(seconds, "stop") * 10**FINEST
+def literal_of_stop(seconds: Seconds, resolution: int) -> str:
+    """A time in seconds as a `stop` line has it, for a system whose tick is 10^-resolution seconds.
+
+    UnfitValue where it has too many decimals, or is above 10^15 ticks.
+    """
+    exactly = seconds_of(seconds, "stop")
+    scaled = exactly * 10**FINEST
     if scaled.denominator != 1:
         raise UnfitValue(f"stop: {seconds} has more than {FINEST} decimals")
+    if exactly * 10**resolution > MOST_TICKS:
+        raise UnfitValue(f"stop: {seconds} is above {exact(MOST_TICKS, resolution):f} seconds, which are 10^15 ticks of this model")
     return f"{exact(scaled.numerator, FINEST):f}".rstrip("0").rstrip(".")
 
 

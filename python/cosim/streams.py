@@ -5,11 +5,12 @@ No tool writes by Python's own streams: a stream may be closed, and then the sta
 import os
 import signal
 import sys
-from typing import BinaryIO, Callable, List, NoReturn, Set, Union
+from typing import BinaryIO, Callable, List, NoReturn, Optional, Sequence, Set, Union
 
-# The statuses where the input can't be read and the output can't be written, as of the program.
-READ_FAULT = 4
-WRITE_FAULT = 5
+from .statuses import Status
+
+# The path of a file.
+Path = Union[str, bytes, "os.PathLike[str]", "os.PathLike[bytes]"]
 
 INPUT, OUTPUT, NOTES = range(3)
 
@@ -37,6 +38,14 @@ def start(main: Callable[[], int]) -> NoReturn:
     signal.signal(signal.SIGINT, signal.SIG_DFL)
     occupy_closed_streams()
     sys.exit(main())
+
+
+def files_of(words: Sequence[str]) -> Optional[List[str]]:
+    """The files that words name: after `--` all are files, and before it those that begin without `-`. None where one is neither."""
+    place = words.index("--") if "--" in words else len(words)
+    if any(word.startswith("-") for word in words[:place]):
+        return None
+    return [*words[:place], *words[place + 1 :]]
 
 
 def write_all(number: int, data: bytes) -> None:
@@ -67,10 +76,10 @@ def write_output(output: Union[str, bytes]) -> None:
             raise OSError(9, "Bad file descriptor")
         write_all(OUTPUT, data)
     except BrokenPipeError:
-        sys.exit(WRITE_FAULT)
+        sys.exit(Status.WRITE_FAULT)
     except OSError as error:
         note(f"the output can't be written: {error.strerror}")
-        sys.exit(WRITE_FAULT)
+        sys.exit(Status.WRITE_FAULT)
 
 
 # The bytes that one read takes at most.
@@ -93,6 +102,16 @@ def read_at_most(file: BinaryIO, limit: int) -> bytes:
     return b"".join(pieces)
 
 
+def read_file(path: Path, limit: int) -> bytes:
+    """The bytes of a file, as `read_at_most`. OSError with its name where it can't be read."""
+    try:
+        with open(path, "rb") as file:
+            return read_at_most(file, limit)
+    except OSError as error:
+        error.filename = os.fsdecode(path)
+        raise
+
+
 def read_input(limit: int) -> bytes:
     """Standard input, as `read_at_most`. Where it can't be read it ends the tool."""
     try:
@@ -102,7 +121,7 @@ def read_input(limit: int) -> bytes:
             return read_at_most(file, limit)
     except OSError as error:
         note(f"the input can't be read: {error.strerror}")
-        sys.exit(READ_FAULT)
+        sys.exit(Status.READ_FAULT)
 
 
 def escaped(text: str) -> str:

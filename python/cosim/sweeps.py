@@ -7,16 +7,21 @@ import importlib
 import io
 import itertools
 import json
+import numbers
+import os
+import stat
+from concurrent.futures.process import BrokenProcessPool
 from contextlib import contextmanager
 from decimal import Decimal
 from fractions import Fraction
-from typing import Any, BinaryIO, Callable, Dict, Iterator, List, Mapping, NamedTuple, Optional, Sequence, Tuple, Union
+from typing import Any, BinaryIO, Callable, Dict, Generator, Iterator, List, Mapping, NamedTuple, Optional, Sequence, Tuple, Union
 
 from .canonical import Variable
 from .errors import CosimError, UnfitValue
 from .models import Model
 from .progress import bar
 from .settings import value_of_literal
+from .streams import Path, clean_name, read_at_most
 from .traces import Trace
 from .values import Given, Value, literal_of
 
@@ -24,10 +29,12 @@ from .values import Given, Value, literal_of
 Measured = Union[Value, Fraction, str, None, float]
 Measure = Callable[[Trace], Union[Measured, Mapping[str, Measured]]]
 
-# The outcome of a run whose measure failed, and that of a model that is refused; others are kinds of `Outcome`.
+# The outcomes of a run whose measure failed, of a model that is refused, of a program that gave no answer, and of a run whose
+# process or machine was lost; others are kinds of `Outcome`.
 MEASURE_FAILED = "measure failed"
 REFUSED = "refused"
 PROGRAM_FAILED = "program failed"
+WORKER_LOST = "worker lost"
 
 # The columns of a sweep that are neither parameters nor measures.
 OTHER_COLUMNS = ("outcome", "note")
@@ -38,9 +45,11 @@ MOST_IN_TASK = 32
 # How many tasks an executor gets before the first ones are done.
 TASKS_AHEAD = 64
 
-
 # How often a task may be lost with a worker of a cluster.
 MOST_LOSSES = 8
+
+# The most bytes of the first line of a kept file, which has names alone.
+LONGEST_HEADER = 1 << 20
 
 # A run of a sweep: the literal of each parameter.
 Case = Tuple[str, ...]
@@ -91,8 +100,8 @@ class Sweep:
 
         return pandas.DataFrame(self.records(), columns=self.names, dtype="object")
 
-    def to_csv(self, path: Optional[str] = None) -> bytes:
-        """The table as CSV, which is written to a file too where one is named."""
+    def to_csv(self, path: Optional[Path] = None) -> bytes:
+        """The table as CSV, which is written to a file too where one is named. OSError where it can't be written."""
         text = io.StringIO()
         writer = csv.writer(text, lineterminator="\n")
         writer.writerow(self.names)
@@ -116,19 +125,22 @@ def sweep(
     parameters: Mapping[str, Sequence[Given]],
     measure: Optional[Measure] = None,
     executor: Any = None,
-    keep: Optional[str] = None,
+    keep: Optional[Path] = None,
     progress: Union[bool, Callable[[int, int], object]] = False,
 ) -> Sweep:
     """Runs a model with each combination of values of its parameters: `{"plate.cooling": ["0.50", "0.60"]}`.
 
     `measure` is a function of a trace that returns a value, or values by their names; runs that end early are measured too. A
-    run that fails is a row with its outcome, and ends nothing.
+    run that fails is a row with its outcome, and ends nothing. Numbers and truth values of numpy become those of Python.
 
     `executor` is any of `concurrent.futures`, or a `dask.distributed.Client`; without one, processes of this machine run on
-    all its cores. Functions go to other processes by their names, so `measure` has to be one of a module.
+    all its cores. Functions go to other processes by their names, so `measure` has to be one of a module. Where a process is
+    ended from outside, the runs that it may have had are made again, each in a process of its own. A run that loses that too has
+    the outcome "worker lost".
 
-    `keep` names a file that gets a line for each run that is done. A sweep that was broken off goes on from there: it makes
-    only the runs that the file hasn't. UnfitValue where the file is of another sweep; the measure isn't compared.
+    `keep` names a file that gets a line for each run that is done, but for those that were lost. A sweep that was broken off goes
+    on from there: it makes only the runs that the file hasn't. UnfitValue where the file is of another model, of other parameters
+    or of a measure with another name, or is no file of a sweep.
 
     `progress` is True for a bar, or a function of the number of runs that are done and of all.
 
@@ -136,7 +148,7 @@ def sweep(
     """
     found = {name: model.find_parameter(name)[1] for name in parameters}
     cases = cases_of(found, parameters)
-    with Kept(keep, digest_of(model, parameters)) as kept, reporter(progress, len(cases)) as report:
+    with Kept(keep, header_of(model, list(parameters), measure)) as kept, reporter(progress, len(cases)) as report:
         left = [case for case in dict.fromkeys(cases) if case not in kept.runs]
         report(len(cases) - len(left))
         for count, done in enumerate(run_cases(model, tuple(parameters), left, measure, executor), 1):
@@ -159,17 +171,33 @@ def reporter(progress: Union[bool, Callable[[int, int], object]], total: int) ->
 
 
 def cases_of(variables: Mapping[str, Variable], parameters: Mapping[str, Sequence[Given]]) -> List[Case]:
-    """All combinations; the last parameter changes fastest."""
+    """All combinations; the last parameter changes fastest. UnfitValue where a value is none, or is no list of values."""
     for name, values in parameters.items():
-        if isinstance(values, str) or not hasattr(values, "__iter__"):
+        if isinstance(values, (str, bytes, bytearray)) or not hasattr(values, "__iter__"):
             raise UnfitValue(f"{name}: {values!r} is one value; write a list")
     literals = [[literal_of(value, variables[name].type, name) for value in values] for name, values in parameters.items()]
     return list(itertools.product(*literals))
 
 
-def digest_of(model: Model, parameters: Mapping[str, Sequence[Given]]) -> str:
-    """What tells a sweep from others: the model and the names of the parameters. Each run has its literals."""
-    return hashlib.sha256(model.canonical + "\n".join(parameters).encode()).hexdigest()
+def header_of(model: Model, names: List[str], measure: Optional[Measure]) -> Dict[str, Any]:
+    """What tells a sweep from others. Each run has its literals."""
+    return {"sweep": 1, "model": hashlib.sha256(model.canonical).hexdigest(), "parameters": names, "measure": name_of(measure)}
+
+
+def name_of(measure: Any) -> Optional[str]:
+    """What tells a measure from others in each process: its module and its name there, and what a partial one is given."""
+    if measure is None:
+        return None
+    if isinstance(measure, functools.partial):
+        given = [*map(word_of, measure.args), *(f"{name}={word_of(value)}" for name, value in sorted(measure.keywords.items()))]
+        return f"{name_of(measure.func)}({', '.join(given)})"
+    named = measure if hasattr(measure, "__qualname__") else type(measure)
+    return f"{getattr(named, '__module__', None)}.{named.__qualname__}"
+
+
+def word_of(value: Any) -> str:
+    """A value that a measure is given. Of other than plain ones it is the name: what they print may have an address."""
+    return repr(value) if value is None or isinstance(value, (bool, int, float, str, bytes, Decimal, Fraction)) else str(name_of(value))
 
 
 def row_of(done: Mapping[str, Any], case: Case, variables: Mapping[str, Variable]) -> SweepRow:
@@ -197,21 +225,65 @@ def run_cases(
 
 
 def run_by_pool(pool: concurrent.futures.Executor, run: Runs, tasks: Iterator[Sequence[Case]]) -> Iterator[Done]:
-    """Runs tasks by an executor of `concurrent.futures`."""
-    pending = {pool.submit(run, task) for task in itertools.islice(tasks, TASKS_AHEAD)}
+    """Runs tasks by an executor of `concurrent.futures`. A pool that lost a process takes no more tasks: other pools go on."""
+    lost = yield from run_until_lost(pool, run, tasks)
+    while lost:
+        yield from run_alone(run, iter(lost))
+        with concurrent.futures.ProcessPoolExecutor() as processes:
+            lost = yield from run_until_lost(processes, run, tasks)
+
+
+def run_until_lost(
+    pool: concurrent.futures.Executor, run: Runs, tasks: Iterator[Sequence[Case]]
+) -> Generator[Done, None, List[Case]]:
+    """Runs tasks until the pool loses a process. Returns the cases that were lost, which are none where all tasks are done."""
+    pending: Dict["concurrent.futures.Future[List[Done]]", Sequence[Case]] = {}
+    lost: List[Case] = []
     try:
-        while pending:
-            done, pending = concurrent.futures.wait(pending, return_when=concurrent.futures.FIRST_COMPLETED)
-            pending |= {pool.submit(run, task) for task in itertools.islice(tasks, len(done))}
-            for future in done:
-                yield from future.result()
+        while True:
+            for task in itertools.islice(tasks, 0 if lost else TASKS_AHEAD - len(pending)):
+                try:
+                    pending[pool.submit(run, task)] = task
+                except BrokenProcessPool:
+                    lost.extend(task)
+                    break
+            if not pending:
+                return lost
+            for future in concurrent.futures.wait(pending, return_when=concurrent.futures.FIRST_COMPLETED).done:
+                task = pending.pop(future)
+                try:
+                    done = future.result()
+                except BrokenProcessPool:
+                    lost.extend(task)
+                    continue
+                yield from done
     finally:
         for future in pending:
             future.cancel()
 
 
+def run_alone(run: Runs, cases: Iterator[Case]) -> Iterator[Done]:
+    """Runs cases one after the other, so that one that ends its process takes no other with it."""
+    is_left = True
+    while is_left:
+        is_left = False
+        with concurrent.futures.ProcessPoolExecutor(1) as process:
+            for case in cases:
+                try:
+                    done = process.submit(run, [case]).result()
+                except BrokenProcessPool as error:
+                    yield lost_run(case, str(error))
+                    is_left = True
+                    break
+                yield from done
+
+
+def lost_run(case: Case, note: str) -> Done:
+    return {"literals": case, "measures": {}, "outcome": WORKER_LOST, "note": note}
+
+
 def run_by_cluster(client: Any, run: Runs, tasks: Iterator[Sequence[Case]]) -> Iterator[Done]:
-    """Runs tasks by a client of dask. A task whose result is lost with its worker is run again.
+    """Runs tasks by a client of dask. A task whose result is lost with its worker is run again, eight times at most.
 
     Executors of dask aren't used: they may never end a task whose worker ended as its result was fetched.
     """
@@ -230,10 +302,10 @@ def run_by_cluster(client: Any, run: Runs, tasks: Iterator[Sequence[Case]]) -> I
             task, losses = pending.pop(future)
             done = result_of(future)
             if done is None:
-                if losses == MOST_LOSSES:
-                    raise RuntimeError(f"a task was lost {MOST_LOSSES + 1} times with its worker")
-                completed.add(submit(task, losses + 1))
-                continue
+                if losses < MOST_LOSSES:
+                    completed.add(submit(task, losses + 1))
+                    continue
+                done = [lost_run(case, f"its task was lost {MOST_LOSSES + 1} times") for case in task]
             for following in itertools.islice(tasks, 1):
                 completed.add(submit(following))
             yield from done
@@ -280,36 +352,51 @@ def run_case(model: Model, names: Tuple[str, ...], case: Case, measure: Optional
     return done
 
 
-def encoded(value: Measured) -> Any:
-    """A measure as JSON has it, exactly."""
-    if value is None or isinstance(value, (bool, int, float, str)):
+def encoded(value: Any) -> Any:
+    """A measure as JSON has it, exactly. Numbers of other packages become those of Python. UnfitValue where it is no measure."""
+    if value is None or isinstance(value, bool):
         return value
+    if isinstance(value, str):
+        return str(value)
     if isinstance(value, (Decimal, Fraction)):
-        return {type(value).__name__: str(value)}
+        return {"Decimal" if isinstance(value, Decimal) else "Fraction": str(value)}
+    if isinstance(value, numbers.Integral):
+        return int(value)
+    if isinstance(value, numbers.Real) and (float(value) == value or value != value):
+        return float(value)
+    if getattr(value, "ndim", None) == 0 and isinstance(value.item(), (bool, int, float)):
+        return value.item()
     raise UnfitValue(f"a measure is a number, a truth value or a text, and not {value!r}")
 
 
 def decoded(value: Any) -> Measured:
-    if not isinstance(value, dict):
-        return value  # type: ignore[no-any-return]
-    return Decimal(value["Decimal"]) if "Decimal" in value else Fraction(value["Fraction"])
+    """A measure that JSON has. ValueError or ArithmeticError where it is none."""
+    if value is None or isinstance(value, (bool, int, float, str)):
+        return value
+    if isinstance(value, dict) and len(value) == 1:
+        (name, text), = value.items()
+        if isinstance(text, str) and name in ("Decimal", "Fraction"):
+            return Decimal(text) if name == "Decimal" else Fraction(text)
+    raise ValueError("no measure")
 
 
 class Kept:
     """The runs that are done, in memory and in a file where one is named. The first line of the file is of the sweep."""
 
-    def __init__(self, path: Optional[str], digest: str) -> None:
-        self.path = path
-        self.header = {"sweep": digest}
+    def __init__(self, path: Optional[Path], header: Mapping[str, Any]) -> None:
+        self.path = None if path is None else os.fsdecode(path)
+        self.header = header
         self.runs: Dict[Case, Done] = {}
         self.file: Optional[BinaryIO] = None
 
     def __enter__(self) -> "Kept":
         if self.path is not None:
+            if os.path.exists(self.path) and not os.path.isfile(self.path):
+                raise self.unfit("it isn't a file")
             self.file = open(self.path, "a+b")
             try:
                 self.read(self.file)
-            except UnfitValue:
+            except BaseException:
                 self.file.close()
                 raise
         return self
@@ -318,33 +405,72 @@ class Kept:
         if self.file:
             self.file.close()
 
+    def unfit(self, reason: str, line: Optional[int] = None) -> UnfitValue:
+        """The exception of a file that is of no use, with the number of the line that shows it."""
+        return UnfitValue(f"{clean_name(self.path or '')}{'' if line is None else f':{line}'}: {reason}")
+
     def read(self, file: BinaryIO) -> None:
         """Reads the runs of the file. A last line that was broken off is taken out."""
+        status = os.fstat(file.fileno())
+        if not stat.S_ISREG(status.st_mode):
+            raise self.unfit("it isn't a file")
         file.seek(0)
-        data = file.read()
-        whole = data[: data.rfind(b"\n") + 1]
-        try:
-            lines = [json.loads(line) for line in whole.splitlines()]
-            runs = {tuple(run["literals"]): run for run in lines[1:]}
-        except (ValueError, KeyError, TypeError):
-            raise UnfitValue(f"{self.path}: it isn't a file of a sweep") from None
-        header = json.dumps(self.header).encode() + b"\n"
-        if not header.startswith(data[: len(header)]):
-            raise UnfitValue(f"{self.path}: it is of another sweep, or of none; name another file, or remove it")
-        self.runs = runs
-        file.truncate(len(whole))
+        first = file.readline(LONGEST_HEADER)
+        header = line_of(self.header)
+        if not header.startswith(first):
+            self.require_header(first)
+        whole = len(first) if first.endswith(b"\n") else 0
+        for number, line in enumerate(read_at_most(file, max(0, status.st_size - len(first))).splitlines(True), 2):
+            if line.endswith(b"\n"):
+                done = self.run_of(line, number)
+                self.runs[tuple(done["literals"])] = done
+                whole += len(line)
+        file.truncate(whole)
         if not whole:
             self.write(self.header)
+
+    def require_header(self, first: bytes) -> None:
+        """UnfitValue where the first line isn't that of this sweep. It says what is another."""
+        try:
+            found = json.loads(first)
+        except (RecursionError, ValueError):
+            found = None
+        if not isinstance(found, dict) or "sweep" not in found:
+            raise self.unfit("it isn't a file of a sweep; name another file")
+        for what, wanted in self.header.items():
+            if what not in found or found[what] != wanted:
+                others = f"the {what} {found.get(what)!r}, and this sweep has {wanted!r}" if what in ("parameters", "measure") else f"another {what}"
+                raise self.unfit(f"it is of another sweep: it has {others}; name another file, or remove it")
+
+    def run_of(self, line: bytes, number: int) -> Done:
+        """The run that a line has. UnfitValue, with the number of the line, where it has none."""
+        try:
+            done = json.loads(line)
+            texts = [done["outcome"], done["note"], *done["literals"]]
+            is_run = all(isinstance(text, str) for text in texts) and len(done["literals"]) == len(self.header["parameters"])
+            for value in done["measures"].values():
+                decoded(value)
+        except (ArithmeticError, AttributeError, LookupError, RecursionError, TypeError, ValueError):
+            is_run = False
+        if not is_run:
+            raise self.unfit("this line isn't that of a run; remove it, and the run is made again", number)
+        return dict(done)
 
     def write(self, line: Mapping[str, Any]) -> None:
         """Writes a line to the file at once, so that it is there where the process is ended."""
         if self.file:
-            self.file.write(json.dumps(line).encode() + b"\n")
+            self.file.write(line_of(line))
             self.file.flush()
 
     def add(self, done: Done) -> None:
-        """Adds a run that is done, once."""
+        """Adds a run that is done, once. The file doesn't get one that was lost, so that the next call makes it."""
         case = tuple(done["literals"])
         if case not in self.runs:
             self.runs[case] = done
-            self.write(done)
+            if done["outcome"] != WORKER_LOST:
+                self.write(done)
+
+
+def line_of(content: Mapping[str, Any]) -> bytes:
+    """A line of a kept file."""
+    return json.dumps(content).encode() + b"\n"

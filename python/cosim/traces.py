@@ -1,18 +1,22 @@
 """Traces: their points, their values, and what differs between two."""
 from dataclasses import dataclass
 from fractions import Fraction
-from typing import TYPE_CHECKING, Any, Dict, Iterator, List, Mapping, Optional, Sequence, Tuple, Union
+from typing import TYPE_CHECKING, Any, Dict, Iterable, Iterator, List, Mapping, Optional, Sequence, Tuple, Union
 
 from .canonical import Port
 from .errors import UnfitValue, UnknownName
 from .outcomes import EXCEPTIONS, UNKNOWN, Outcome
-from .values import Given, Value, form_of, fraction_of, ticks_of, values_of_fields
+from .streams import Path
+from .values import Given, Value, form_of, fraction_of, is_in_range, ticks_of, values_of_fields
 
 if TYPE_CHECKING:
     import pandas
 
 TIME = "time"
 INDEX = "index"
+
+# The byte-order mark, which some editors write at the begin of a file.
+MARK = "\ufeff"
 
 Point = Tuple[int, int]
 
@@ -79,20 +83,26 @@ class Trace:
 
     @classmethod
     def of_table(cls, table: bytes, ports: Sequence[Port], resolution: int, name: str) -> "Trace":
-        """The trace that a table has, as `run` writes it. UnfitValue where its header is another one, or a row has no form."""
+        """The trace that a table has, as `run` writes it.
+
+        UnfitValue, with the number of the line, where its header is another one, a row has no form, a value is out of the range
+        of its type, or the points don't rise.
+        """
         lines = table.decode("utf-8", "replace").splitlines()
-        header = ",".join([TIME, INDEX, *map(str, ports)])
-        if lines[:1] != [header]:
-            raise UnfitValue(f"{name}: the first line isn't {header}")
+        require_header(lines[:1], header_of(ports), name)
+        count = len(ports) + 2
         for number, line in enumerate(lines[1:], 2):
-            if line.count(",") != header.count(","):
-                raise UnfitValue(f"{name}:{number}: it has {line.count(',') + 1} fields, and the header {header.count(',') + 1}")
+            if line.count(",") + 1 != count:
+                raise UnfitValue(f"{name}:{number}: it has {line.count(',') + 1} fields, and the header {count}")
         trace = cls(table, ports, resolution, Outcome(UNKNOWN))
-        forms = [form_of(f"Fixed {resolution}"), form_of("Fixed 0"), *(form_of(port.type, port.is_event) for port in ports)]
-        for number, record in enumerate(trace.records, 2):
-            if not all(form.fullmatch(field) for form, field in zip(forms, record)):
-                raise UnfitValue(f"{name}:{number}: a value isn't written as a trace has it")
+        require_forms(trace, name)
+        require_rising(trace, name)
         return trace
+
+    @classmethod
+    def without_rows(cls, ports: Sequence[Port], resolution: int) -> "Trace":
+        """A trace that has columns alone. What is asked of their names is judged as of any other trace."""
+        return cls(header_of(ports).encode(), ports, resolution, Outcome(UNKNOWN))
 
     @property
     def records(self) -> List[List[str]]:
@@ -132,14 +142,17 @@ class Trace:
         return len(self.records)
 
     def column(self, name: str) -> Column:
+        """The column of a name. UnknownName where there is none."""
         return self.columns[self.place_of(name)]
 
     def place_of(self, name: str) -> int:
+        """The place of a column, from 0 after `time` and `index`. UnknownName where there is none."""
         if name not in self.names:
             raise UnknownName(f"there is no column {name}; there are {', '.join(self.names)}")
         return self.names.index(name)
 
     def __getitem__(self, name: str) -> List[Optional[Value]]:
+        """The values of a column, one for each row. UnknownName where there is no such column."""
         place = self.place_of(name)
         if name not in self._values:
             fields = [record[place + 2] for record in self.records]
@@ -164,14 +177,14 @@ class Trace:
             raise EXCEPTIONS[self.outcome.kind](self.outcome)
         return self
 
-    def to_csv(self, path: Optional[str] = None) -> bytes:
-        """The bytes that the program wrote, which are written to a file too where one is named."""
+    def to_csv(self, path: Optional[Path] = None) -> bytes:
+        """The bytes that the program wrote, which are written to a file too where one is named. OSError where it can't be written."""
         if path is not None:
             with open(path, "wb") as file:
                 file.write(self.table)
         return self.table
 
-    def frame(self, floats: Union[bool, Sequence[str]] = False) -> "pandas.DataFrame":
+    def frame(self, floats: Union[bool, Iterable[str]] = False) -> "pandas.DataFrame":
         """The trace as a frame of pandas, with the times in seconds as its index; `cosim.frames` has the types of columns."""
         from .frames import frame_of
 
@@ -193,6 +206,41 @@ class Trace:
             only = sorted(set(self.names) ^ set(other.names))
             raise UnknownName(f"only one of the traces has the columns {', '.join(only)}")
         return list(differences(self, other, tolerances(self, tolerance)))
+
+
+def header_of(ports: Sequence[Port]) -> str:
+    """The first line of a trace with these columns."""
+    return ",".join([TIME, INDEX, *map(str, ports)])
+
+
+def require_header(lines: Sequence[str], header: str, name: str) -> None:
+    """UnfitValue where the first of the lines is another one."""
+    if list(lines[:1]) == [header]:
+        return
+    if lines and lines[0].startswith(MARK):
+        raise UnfitValue(f"{name}: it begins with a byte-order mark, which no trace has; save it as UTF-8 without that mark")
+    raise UnfitValue(f"{name}: the first line isn't {header}")
+
+
+def require_forms(trace: Trace, name: str) -> None:
+    """UnfitValue where a field isn't written as a trace has it, or is out of the range of its type."""
+    of_points = [form_of(f"Fixed {trace.resolution}", is_signed=False), form_of("Int64", is_signed=False)]
+    forms = [*of_points, *(form_of(column.type, column.is_event) for column in trace.columns)]
+    for number, record in enumerate(trace.records, 2):
+        if not all(form.fullmatch(field) for form, field in zip(forms, record)):
+            raise UnfitValue(f"{name}:{number}: a value isn't written as a trace has it")
+        for column, field in zip(trace.columns, record[2:]):
+            if not is_in_range(field, column.type):
+                raise UnfitValue(f"{name}:{number}: {column.name}: {field} is out of the range of {column.type}")
+
+
+def require_rising(trace: Trace, name: str) -> None:
+    """UnfitValue where a point isn't after the one before it: by its time, or by its index where they have one time."""
+    points = trace.points
+    for number, (before, point) in enumerate(zip(points, points[1:]), 3):
+        if point <= before:
+            places = [",".join(trace.records[at][:2]) for at in (number - 2, number - 3)]
+            raise UnfitValue(f"{name}:{number}: the point {places[0]} isn't after the one before it, {places[1]}")
 
 
 def tolerances(trace: Trace, given: Union[Given, Mapping[str, Given]]) -> Dict[str, Fraction]:

@@ -47,11 +47,21 @@ def values_of_fields(fields: List[str], type_name: str) -> List[Optional[Value]]
     return [Decimal(field) if field else None for field in fields]
 
 
-def form_of(type_name: str, is_event: bool = False) -> "re.Pattern[str]":
-    """How a trace writes the values of a type. An event may be absent."""
+def form_of(type_name: str, is_event: bool = False, is_signed: bool = True) -> "re.Pattern[str]":
+    """How a trace writes the values of a type, with as many digits as 64 bits have. An event may be absent."""
     decimals = decimals_of(type_name)
-    form = "true|false" if type_name == "Bool" else r"-?(?:0|[1-9][0-9]*)" + (rf"\.[0-9]{{{decimals}}}" if decimals else "")
+    number = r"(?:0|[1-9][0-9]{0,19})" + (rf"\.[0-9]{{{decimals}}}" if decimals else "")
+    sign = r"(?!-[0.]+\Z)-?" if is_signed else ""
+    form = "true|false" if type_name == "Bool" else sign + number
     return re.compile(f"(?:{form}){'?' if is_event else ''}")
+
+
+def is_in_range(field: str, type_name: str) -> bool:
+    """Whether a field, which has the form of its type, is the literal of a word of that type."""
+    if type_name == "Bool" or not field:
+        return True
+    low, high = range_of(type_name)
+    return low <= int(field.replace(".", "")) <= high
 
 
 def fraction_of(given: Given, what: str) -> Fraction:

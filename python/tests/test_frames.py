@@ -46,6 +46,8 @@ def test_floats() -> None:
     assert str(frame["cooler.degrees_now"].dtype) == "float64"
     assert str(frame["cooler.cold"].dtype) == "bool"
     assert frame.attrs["floats"] == ["cooler.degrees_now"]
+    assert trace.frame(floats=(name for name in ["cooler.degrees_now"])).attrs["floats"] == ["cooler.degrees_now"]
+    assert str(trace.frame(floats=iter(["cooler.degrees_now"]))["cooler.degrees_now"].dtype) == "float64"
     events = cosim.Model.from_text(EVENTS).run().frame(floats=["source.square"])
     assert math.isnan(events["source.square"][0]) and events["source.square"][3] == 9.0
 

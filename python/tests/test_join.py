@@ -1,9 +1,10 @@
 """Models of several files: what is joined, and at which file and line it is refused."""
+import os
 import pathlib
 import pickle
 import random
 import re
-from typing import Dict, List, Tuple
+from typing import Any, Callable, Dict, List, Tuple
 
 import pytest
 
@@ -241,6 +242,27 @@ def test_files_that_do_not_fit(tmp_path: pathlib.Path) -> None:
         cosim.join([battery, tmp_path / "nowhere"])
     with pytest.raises(IsADirectoryError):
         cosim.join([tmp_path, system])
+
+
+def test_a_file_with_two_names(tmp_path: pathlib.Path, monkeypatch: pytest.MonkeyPatch) -> None:
+    written(tmp_path, PARTS)
+    (tmp_path / "link.cosim").symlink_to("battery.cosim")
+    os.link(tmp_path / "battery.cosim", tmp_path / "hard.cosim")
+    monkeypatch.chdir(tmp_path)
+    for first, second in (("./battery.cosim", "battery.cosim"), ("battery.cosim", "link.cosim"), ("hard.cosim", "battery.cosim")):
+        with pytest.raises(cosim.Unjoinable) as caught:
+            cosim.join([first, "heater.cosim", "system.cosim", second])
+        assert str(caught.value) == f"{second} is given twice, once as {first}"
+
+
+def test_paths_of_all_kinds(tmp_path: pathlib.Path) -> None:
+    paths = written(tmp_path, PARTS)
+    wanted = cosim.join(paths)
+    assert wanted.run().outcome.completed
+    kinds: List[Callable[[pathlib.Path], Any]] = [str, os.fsencode]
+    for kind in kinds:
+        model = cosim.join([kind(path) for path in paths])
+        assert (model.text, model.name) == (wanted.text, wanted.name)
 
 
 def test_refused_goes_from_process_to_process(tmp_path: pathlib.Path) -> None:

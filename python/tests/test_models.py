@@ -1,6 +1,7 @@
 """Models: parts, settings, refusals and runs."""
 import pathlib
 import pickle
+import shutil
 from decimal import Decimal
 from fractions import Fraction
 from typing import Any, Callable, List, Tuple
@@ -8,6 +9,7 @@ from typing import Any, Callable, List, Tuple
 import pytest
 
 import cosim
+from cosim import program
 from texts import COOLER, DIVIDES, HALVES
 
 NESTED = """group Pair
@@ -197,6 +199,10 @@ def test_set_stop() -> None:
         model.set_stop(-1)
     with pytest.raises(cosim.UnfitValue, match="has more than 9 decimals"):
         model.set_stop(Fraction(1, 3))
+    model.set_stop(10**14).check()
+    for seconds in (10**20, 10**14 + 1):
+        with pytest.raises(cosim.UnfitValue, match=f"stop: {seconds} is above 100000000000000.0 seconds, which are 10\\^15 ticks"):
+            model.set_stop(seconds)
 
 
 def test_until(counter: cosim.Model) -> None:
@@ -278,6 +284,10 @@ def test_replay_and_nodes(counter: cosim.Model) -> None:
     assert (all_rows["a.y"], all_rows.outcome.kind, all_rows.counts) == ([0, 1, 2, 3], "completed", {"node 0": 3, "node 1": 3})
     with pytest.raises(cosim.UnfitValue, match="--rounds 1..100000"):
         counter.nodes(seed=0, rounds=0)
+    assert counter.replay(seed=10**19 - 1, workers=1).to_csv() == counter.run().to_csv()
+    for seed in (-1, 10**19):
+        with pytest.raises(cosim.UnfitValue, match="--seed N"):
+            counter.replay(seed=seed, workers=1)
 
 
 def test_no_program(counter: cosim.Model, monkeypatch: pytest.MonkeyPatch, tmp_path: pathlib.Path) -> None:
@@ -330,3 +340,42 @@ def test_numbers_of_numpy() -> None:
 def test_no_file() -> None:
     with pytest.raises(FileNotFoundError):
         cosim.Model.read("/nowhere/model.cosim")
+
+
+def test_a_file_without_an_end() -> None:
+    model = cosim.Model.read("/dev/zero")
+    with pytest.raises(cosim.Refused) as caught:
+        model.check()
+    assert (caught.value.line, caught.value.rule) == (1, 2)
+
+
+def test_what_is_no_text(counter: cosim.Model) -> None:
+    for given in (None, 7, ["cosim 1"]):
+        takers: List[Callable[[Any], object]] = [cosim.Model.from_text, cosim.Model.stimulus, cosim.Saved.from_text, counter.verify]
+        for take in takers:
+            with pytest.raises(TypeError, match=f"a text is str or bytes, and not {type(given).__name__}"):
+                take(given)
+
+
+@pytest.mark.parametrize("other", ["true", "false", "echo", "cat"])
+def test_another_program(other: str, monkeypatch: pytest.MonkeyPatch) -> None:
+    path = shutil.which(other)
+    assert path
+    monkeypatch.setenv("COSIM", path)
+    model = cosim.Model.from_text(COOLER)
+    asks: List[Callable[[], object]] = [model.check, model.run, lambda: model.set("cooler.rate", 1), lambda: cosim.Model.stimulus("time,v\n0,5\n")]
+    for ask in asks:
+        with pytest.raises(cosim.NoProgram) as caught:
+            ask()
+        assert str(caught.value) == f"the program {path} isn't cosim. The variable COSIM names another"
+        assert caught.value.status == 69
+
+
+@pytest.mark.parametrize("other", ["true", "false", "echo", "cat"])
+def test_another_program_of_the_tools(other: str, monkeypatch: pytest.MonkeyPatch, capfd: pytest.CaptureFixture[str]) -> None:
+    path = shutil.which(other)
+    assert path
+    monkeypatch.setenv("COSIM", path)
+    for ask, command in ((program.ask, "check"), (program.ask, "print"), (program.ask_first_byte, "resume")):
+        assert ask(command, COOLER.encode()) == (69, b"", None, None)
+        assert capfd.readouterr() == ("", f"{path}: it isn't cosim\n")

@@ -7,7 +7,7 @@ import pytest
 
 import cosim
 from cosim.plots import bands
-from commands import call
+from commands import call, refuse_runs
 from texts import COOLER, DIVIDES, EVENTS, STUCK
 
 pytest.importorskip("matplotlib")
@@ -76,7 +76,9 @@ def test_the_command_says_how_a_run_ended(tmp_path: pathlib.Path) -> None:
     assert picture.exists()
 
 
-def test_the_command_with_mistakes(examples: pathlib.Path, tmp_path: pathlib.Path) -> None:
+def test_the_command_with_mistakes(
+    examples: pathlib.Path, tmp_path: pathlib.Path, tmp_path_factory: pytest.TempPathFactory, monkeypatch: pytest.MonkeyPatch
+) -> None:
     heater, picture = str(examples / "heater.cosim"), str(tmp_path / "plot.svg")
     mistake = str(examples / "mistakes" / "two-stops.cosim")
     cases = [
@@ -86,13 +88,37 @@ def test_the_command_with_mistakes(examples: pathlib.Path, tmp_path: pathlib.Pat
         (("plot", heater, "-o", picture, "--until", "-1"), 2, ""),
         (("plot", heater, "-o", picture, "--until", "x"), 2, "cosim: until: 'x' is no number\n"),
         (("plot", heater, "-o", str(tmp_path / "plot.gif")), 2, ""),
+        (("plot", heater, "-o", "/nowhere/plot.svg", "--columns", "a.b"), 2, "cosim: there is no column a.b"),
+        (("plot", heater, "-o", str(tmp_path), "--columns", "a.b"), 2, ""),
         (("plot", heater, "-o", "/nowhere/plot.svg"), 5, "/nowhere/plot.svg: No such file or directory\n"),
         (("plot", heater, "-o", "/dev/full.svg/x.svg"), 5, "/dev/full.svg/x.svg: No such file or directory\n"),
         (("plot", heater), 2, ""),
         ((), 2, ""),
     ]
+    # The mistakes are found before a run, which would take its time.
+    monkeypatch.setenv("COSIM", refuse_runs(tmp_path_factory.mktemp("program"), os.environ["COSIM"]))
     for words, status, begins in cases:
         called = call(*words)
         assert (called.returncode, called.stdout) == (status, ""), (words, called)
         assert called.stderr.startswith(begins) and called.stderr and "Traceback" not in called.stderr, (words, called)
         assert os.listdir(tmp_path) == []
+
+
+def test_without_matplotlib(examples: pathlib.Path, tmp_path: pathlib.Path, monkeypatch: pytest.MonkeyPatch) -> None:
+    """What is missing is named before the run."""
+    modules, output = tmp_path / "modules", tmp_path / "plot.svg"
+    modules.mkdir()
+    (modules / "matplotlib.py").write_text("raise ModuleNotFoundError(\"No module named 'matplotlib'\", name='matplotlib')\n")
+    monkeypatch.setenv("PYTHONPATH", str(modules))
+    monkeypatch.setenv("COSIM", refuse_runs(tmp_path, os.environ["COSIM"]))
+    called = call("plot", str(examples / "heater.cosim"), "-o", str(output))
+    assert (called.returncode, called.stderr) == (69, "a plot requires the Python package matplotlib, which isn't there\n")
+    assert not output.exists()
+
+
+@pytest.mark.parametrize("words", [["--help"], ["plot", "--help"], ["report", "-h"]])
+def test_help_that_cannot_be_written(words: List[str]) -> None:
+    assert call(*words).stdout.startswith("usage: python -m cosim")
+    with open("/dev/full", "w", encoding="utf-8") as full:
+        called = call(*words, output=full)
+    assert (called.returncode, called.stderr) == (5, "the output can't be written: No space left on device\n")

@@ -17,7 +17,8 @@ from cosim.canonical import read_system
 from cosim.reports.layers import forward_edges, layer_numbers, layout_of
 from cosim.reports.markup import data_of, hash_of, script_of, text
 from cosim.reports.picture import picture
-from commands import call
+from cosim.reports.sections import source
+from commands import call, refuse_runs
 from texts import COOLER, DIVIDES, EVENTS, HALVES, REFUSES
 
 needs_plotly = pytest.mark.skipif(importlib.util.find_spec("plotly") is None, reason="there is no plotly")
@@ -112,6 +113,11 @@ def test_rows_that_are_left_out(monkeypatch: pytest.MonkeyPatch) -> None:
     }
 
 
+def test_lines_of_a_text_keep_their_numbers() -> None:
+    """A browser drops the first line feed of the element."""
+    assert source(b"\ncosim 1\r\n") == '<pre tabindex="0">\n\ncosim 1\n</pre>'
+
+
 def test_texts_and_scripts() -> None:
     assert text("<a href='x'>&\x1b\n") == "&lt;a href=&#x27;x&#x27;&gt;&amp;\\x1b\\n"
     assert data_of(["</script>", "\u2028&"]) == '["\\u003c/script\\u003e","\\u2028\\u0026"]'
@@ -176,6 +182,18 @@ def test_the_command_writes_a_page(examples: pathlib.Path, tmp_path: pathlib.Pat
     assert (data["drawn"], data["traces"][0]["rows"]) == ([0], 11)
     assert os.listdir(tmp_path) == [page.name]
     assert page.stat().st_mode & 0o777 == 0o666 & ~mask()
+
+
+@needs_plotly
+@pytest.mark.parametrize("mode", [0o600, 0o444])
+def test_the_command_keeps_modes(examples: pathlib.Path, tmp_path: pathlib.Path, mode: int) -> None:
+    page = tmp_path / "report.html"
+    page.write_text("old")
+    page.chmod(mode)
+    called = call("report", str(examples / "heater.cosim"), "-o", str(page))
+    is_refused = mode == 0o444 and os.geteuid() != 0
+    assert (called.returncode, page.read_text(encoding="utf-8") == "old") == ((5, True) if is_refused else (0, False))
+    assert page.stat().st_mode & 0o7777 == mode
 
 
 def mask() -> int:
@@ -249,7 +267,17 @@ CASES: List[Tuple[Tuple[str, ...], int, str]] = [
 
 @needs_plotly
 @pytest.mark.parametrize("words, status, begins", CASES)
-def test_the_command_with_mistakes(examples: pathlib.Path, tmp_path: pathlib.Path, words: Tuple[str, ...], status: int, begins: str) -> None:
+def test_the_command_with_mistakes(
+    examples: pathlib.Path,
+    tmp_path: pathlib.Path,
+    tmp_path_factory: pytest.TempPathFactory,
+    monkeypatch: pytest.MonkeyPatch,
+    words: Tuple[str, ...],
+    status: int,
+    begins: str,
+) -> None:
+    """All are found before a run, which would take its time."""
+    monkeypatch.setenv("COSIM", refuse_runs(tmp_path_factory.mktemp("program"), os.environ["COSIM"]))
     names = {
         "heater": examples / "heater.cosim",
         "mistake": examples / "mistakes" / "two-stops.cosim",
@@ -278,7 +306,8 @@ def test_a_locale_without_letters(examples: pathlib.Path, tmp_path: pathlib.Path
     assert page.read_bytes() == cosim.report(cosim.Model.read(examples / "heater.cosim"), labels=("heater.cosim", ""))
 
 
-def test_without_plotly(examples: pathlib.Path, tmp_path: pathlib.Path) -> None:
+def test_without_plotly(examples: pathlib.Path, tmp_path: pathlib.Path, monkeypatch: pytest.MonkeyPatch) -> None:
+    monkeypatch.setenv("COSIM", refuse_runs(tmp_path, os.environ["COSIM"]))
     (tmp_path / "plotly.py").write_text("raise ModuleNotFoundError(\"No module named 'plotly'\", name='plotly')\n")
     path = os.pathsep.join([str(tmp_path), os.path.dirname(os.path.dirname(cosim.__file__))])
     words = [sys.executable, "-m", "cosim", "report", str(examples / "heater.cosim"), "-o", str(tmp_path / "page.html")]

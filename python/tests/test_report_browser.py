@@ -7,7 +7,8 @@ import pytest
 import cosim
 from browser import Browser
 from cosim.canonical import Port
-from texts import COOLER, DIVIDES, EVENTS, STUCK
+from test_report import ring
+from texts import COOLER, DIVIDES, EVENTS, HALVES, STUCK
 
 pytest.importorskip("plotly")
 
@@ -30,6 +31,9 @@ LINKS = "return document.querySelectorAll('figcaption a, .drawing svg a, #rows a
 WIDE = "cosim 1\nunit A\nstate n : Int64 = 0\nparam big : Int64 = 9007199254740993\n{}step\nn := n + 1\nend\nend\n{}stop 249\nlongest 1\n".format(
     "".join(f"output y{number} : Int64 = big + n * {number}\n" for number in range(25)), "instance a : A\nend\ninstance b : A\nend\n"
 )
+
+# Counts the seconds.
+COUNTS = "cosim 1\nunit A\nstate n : Int64 = 0\noutput y : Int64 = n\nstep\nn := n + 1\nend\nend\ninstance a : A\nend\nstop 20\nlongest 1\n"
 
 # 100,000 rows, of which one has another value.
 SPIKE = (
@@ -174,10 +178,76 @@ def test_differences_are_listed(browser: Browser, heater: cosim.Model, tmp_path:
     assert browser.texts("#differences thead th")[3:] == ["calm", "windy"]
     assert f"calm and windy have {len(found)} differences" in browser.texts("#differences p")[0]
     area = browser.plot("battery.energy")
-    calm, windy = "calm, time 1800, index 0: 47.0000", "windy, time 1800, index 0: 46.6000"
-    browser.require_hover(area, 1800, [calm, windy, "differs: 47.0000 and 46.6000"])
+    calm, windy = "calm, time 1800, index 0: 47.0000, differs from 46.6000", "windy, time 1800, index 0: 46.6000, differs from 47.0000"
+    browser.require_hover(area, 1800, [calm, windy])
     assert browser.texts("#rows h3") == ["calm", "windy"]
     browser.require_quiet(page)
+
+
+def test_a_difference_is_shown_at_its_own_point_alone(browser: Browser, tmp_path: pathlib.Path) -> None:
+    """The traces differ at 2 alone; a mark that is far from the cursor must not be shown."""
+    model = cosim.Model.from_text(COUNTS)
+    trace = model.run()
+    other = cosim.Trace(trace.table.replace(b"\n2,0,2\n", b"\n2,0,9\n"), model.system.columns, 0, trace.outcome)
+    page = tmp_path / "page.html"
+    cosim.report(model, trace, other, path=str(page))
+    browser.open(page)
+    area = browser.plot("a.y")
+    browser.require_hover(area, 2, ["mine, time 2, index 0: 2, differs from 9", "other, time 2, index 0: 9, differs from 2"])
+    for time in (9, 13, 17):
+        browser.require_hover(area, time, [f"{label}, time {time}, index 0: {time}" for label in ("mine", "other")])
+    assert browser.run("return arguments[0].data[2].x", area) == [2]
+    assert "differences are marked" not in "".join(browser.texts("#plots p"))
+    browser.require_quiet(page)
+
+
+def test_differences_of_events_and_of_times_with_other_decimals(browser: Browser, tmp_path: pathlib.Path) -> None:
+    model = cosim.Model.from_text(EVENTS)
+    page = tmp_path / "page.html"
+    cosim.report(model, other=cosim.Model.from_text(EVENTS.replace("n == 3", "n == 2")).run(), path=str(page))
+    browser.open(page)
+    browser.require_hover(browser.plot("source.odd"), 3, [
+        "mine, time 3, index 0: true, differs from absent",
+        "other, time 2, index 0: true, differs from absent",
+    ])
+    finer = cosim.Model.from_text(HALVES.replace("resolution 1", "resolution 2").replace("longest 0.5", "longest 0.75")).run()
+    cosim.report(cosim.Model.from_text(HALVES), other=finer, path=str(page))
+    browser.open(page)
+    browser.require_hover(browser.plot("half.y"), 1.5, [
+        "mine, time 1.5, index 0: 3, differs from 2",
+        "other, time 1.50, index 0: 2, differs from 3",
+    ])
+
+
+def test_the_page_says_where_marks_are_cut(browser: Browser, tmp_path: pathlib.Path, monkeypatch: pytest.MonkeyPatch) -> None:
+    monkeypatch.setattr("cosim.reports.tables.MOST_DIFFERENCES", 5000)
+    model = cosim.Model.from_text(SPIKE).set_stop(9999)
+    other = cosim.Model.from_text(SPIKE.replace("else 7", "else 8")).set_stop(9999).run()
+    page = tmp_path / "page.html"
+    cosim.report(model, other=other, path=str(page))
+    browser.open(page)
+    says = browser.texts("#plots p")
+    assert "The first 5,000 of 10,000 differences are marked, and said under the cursor." in says
+    assert "Of more than 4,000 marks in view a plot shows a part. Zoom in to see each mark." in says
+
+
+def test_the_picture_opens_at_a_component(browser: Browser, tmp_path: pathlib.Path) -> None:
+    """A ring of many components leaves the corners of its picture empty. The first box has no connection, and is below."""
+    page = write(tmp_path / "page.html", cosim.Model.from_text(ring(61).replace("instance i0 :", "instance b : A\nend\ninstance i0 :")))
+    browser.open(page)
+    first = browser.run(
+        "const area = document.querySelector('.picture').getBoundingClientRect();"
+        "const name = [...document.querySelectorAll('.box .name')].find(each => each.textContent === 'i0').getBoundingClientRect();"
+        "return [name.left - area.left, area.right - name.right, name.top - area.top, area.bottom - name.bottom]"
+    )
+    assert min(first) > 0
+    assert max(first[2:]) < 2 * min(first[2:]), "it is near to the middle"
+
+
+def test_lines_of_the_text_keep_their_numbers(browser: Browser, tmp_path: pathlib.Path) -> None:
+    page = write(tmp_path / "page.html", cosim.Model.from_text("\n\n" + COOLER))
+    browser.open(page)
+    assert browser.texts("#text pre")[0].split("\n")[2] == "cosim 1"
 
 
 def test_points_of_one_trace_alone_and_names_of_traces(browser: Browser, tmp_path: pathlib.Path) -> None:
@@ -191,7 +261,8 @@ def test_points_of_one_trace_alone_and_names_of_traces(browser: Browser, tmp_pat
         ["15", "0", "time", "no row", "15"],
         ["20", "0", "time", "20", "no row"],
     ]
-    at_20, at_15 = f"{ATTACKS[3]}, time 20, index 0: true", f"{ATTACKS[6]}, time 15, index 0: false"
+    at_20 = f"{ATTACKS[3]}, time 20, index 0: true, no such point in {ATTACKS[6]}"
+    at_15 = f"{ATTACKS[6]}, time 15, index 0: false, no such point in {ATTACKS[3]}"
     browser.require_hover(browser.plot("cooler.cold"), 20, [at_20, at_15])
     assert browser.texts("#outcome h3") == [ATTACKS[3], ATTACKS[6]]
     assert {ATTACKS[3], ATTACKS[6]} <= set(browser.texts(".legendtext"))

@@ -52,6 +52,20 @@ def test_no_position(counter: cosim.Model) -> None:
     assert (caught.value.line, caught.value.rule) == (2, 32)
 
 
+def test_files_without_an_end() -> None:
+    with pytest.raises(cosim.Refused):
+        cosim.Saved.read("/dev/zero")
+
+
+def test_a_saved_text_that_is_too_long(counter: cosim.Model) -> None:
+    with pytest.raises(cosim.Refused) as caught:
+        cosim.Saved.from_text(counter.save(2).text + 2 * 1024 * 1024 * b"#")
+    assert caught.value.rule == 2
+    with pytest.raises(cosim.Refused) as caught:
+        cosim.Saved.from_text(b"saved 1\nrow " + 5000 * b"1" + b"\nat 2 0\nstate a 2\n" + counter.text)
+    assert caught.value.rule == 32
+
+
 def test_state_at() -> None:
     model = cosim.Model.from_text(COOLER)
     assert model.state_at(0) == {"cooler": {"degrees": Decimal("1.00")}}

@@ -5,9 +5,11 @@ import json
 import os
 import pathlib
 import signal
+import sys
+from concurrent.futures.process import BrokenProcessPool
 from decimal import Decimal
 from fractions import Fraction
-from typing import Any, List, Set
+from typing import Any, Dict, List, Set
 
 import pytest
 
@@ -97,8 +99,9 @@ def test_unfit_parameters(cooler: cosim.Model) -> None:
         cosim.sweep(cooler, {"cooler.rat": ["0.25"]})
     with pytest.raises(cosim.UnfitValue, match="cooler.rate: 0.5 is a float"):
         cosim.sweep(cooler, {"cooler.rate": [0.5]})  # type: ignore[list-item]
-    with pytest.raises(cosim.UnfitValue, match="'0.25' is one value; write a list"):
-        cosim.sweep(cooler, {"cooler.rate": "0.25"})
+    for given in ("0.25", b"0.25", bytearray(b"0.25"), 1):
+        with pytest.raises(cosim.UnfitValue, match=r"0.25'\)? is one value; write a list|1 is one value"):
+            cosim.sweep(cooler, {"cooler.rate": given})  # type: ignore[dict-item]
     assert len(cosim.sweep(cooler, {"cooler.rate": []})) == 0
 
 
@@ -134,13 +137,145 @@ def test_a_file_of_another_sweep(cooler: cosim.Model, tmp_path: pathlib.Path) ->
     with concurrent.futures.ThreadPoolExecutor(1) as threads:
         cosim.sweep(cooler, {"cooler.rate": ["0.25"]}, executor=threads, keep=str(keep))
         other = cooler.set_stop(40)
-        with pytest.raises(cosim.UnfitValue, match="it is of another sweep"):
+        with pytest.raises(cosim.UnfitValue, match="it is of another sweep: it has another model; name another file, or remove it"):
             cosim.sweep(other, {"cooler.rate": ["0.25"]}, executor=threads, keep=str(keep))
-        for content in (b"time,index\n", b"no line feed"):
+        with pytest.raises(cosim.UnfitValue, match=r"it has the parameters \['cooler.rate'\], and this sweep has \[\]"):
+            cosim.sweep(cooler, {}, executor=threads, keep=str(keep))
+        for content in (b"time,index\n", b"no line feed", b"[]\n", b"[" * 100_000, b"7\n"):
             keep.write_bytes(content)
-            with pytest.raises(cosim.UnfitValue):
-                cosim.sweep(cooler, {"cooler.rate": ["0.25"]}, executor=threads, keep=str(keep))
+            with pytest.raises(cosim.UnfitValue, match="it isn't a file of a sweep"):
+                cosim.sweep(cooler, {"cooler.rate": ["0.25"]}, executor=threads, keep=keep)
             assert keep.read_bytes() == content
+
+
+def test_a_file_of_another_measure(cooler: cosim.Model, tmp_path: pathlib.Path) -> None:
+    keep = tmp_path / "kept"
+    rows, others = functools.partial(measures.named, "rows"), functools.partial(measures.named, name="rows")
+    with concurrent.futures.ThreadPoolExecutor(1) as threads:
+
+        def run(measure: Any) -> cosim.Sweep:
+            return cosim.sweep(cooler, {"cooler.rate": ["0.25"]}, measure, threads, keep)
+
+        assert last_of(run(measures.last)) == [Decimal("0.25")]
+        wrong: List[Any] = [None, len, measures.several, rows]
+        for measure in wrong:
+            with pytest.raises(cosim.UnfitValue, match="it has the measure 'measures.last', and this sweep has "):
+                run(measure)
+        assert last_of(run(measures.last)) == [Decimal("0.25")]
+        keep.unlink()
+        assert run(rows).rows[0].measures == {"rows": 4}
+        assert run(functools.partial(measures.named, "rows")).rows[0].measures == {"rows": 4}
+        for measure in (functools.partial(measures.named, "cold"), others):
+            with pytest.raises(cosim.UnfitValue, match=r"it has the measure \"measures.named\('rows'\)\""):
+                run(measure)
+
+
+@pytest.mark.parametrize(
+    "line",
+    [
+        b"7\n",
+        b"{}\n",
+        b"no JSON\n",
+        b'{"literals": ["0.25"]}\n',
+        b'{"literals": ["0.25", "1"], "outcome": "completed", "note": "", "measures": {}}\n',
+        b'{"literals": [0.25], "outcome": "completed", "note": "", "measures": {}}\n',
+        b'{"literals": ["0.25"], "outcome": 7, "note": "", "measures": {}}\n',
+        b'{"literals": ["0.25"], "outcome": "completed", "note": "", "measures": []}\n',
+        b'{"literals": ["0.25"], "outcome": "completed", "note": "", "measures": {"measure": {"Decimals": "1"}}}\n',
+        b'{"literals": ["0.25"], "outcome": "completed", "note": "", "measures": {"measure": {"Decimal": "x"}}}\n',
+        b'{"literals": ["0.25"], "outcome": "completed", "note": "", "measures": {"measure": {"Fraction": "1/0"}}}\n',
+        b'{"literals": ["0.25"], "outcome": "completed", "note": "", "measures": {"measure": [1]}}\n',
+    ],
+)
+def test_lines_of_a_file_that_are_no_run(cooler: cosim.Model, tmp_path: pathlib.Path, line: bytes) -> None:
+    keep = tmp_path / "kept"
+    with concurrent.futures.ThreadPoolExecutor(1) as threads:
+        cosim.sweep(cooler, {"cooler.rate": ["0.30"]}, measures.last, threads, keep)
+        content = keep.read_bytes() + line
+        keep.write_bytes(content)
+        with pytest.raises(cosim.UnfitValue, match="kept:3: this line isn't that of a run"):
+            cosim.sweep(cooler, {"cooler.rate": ["0.25"]}, measures.last, threads, keep)
+    assert keep.read_bytes() == content
+
+
+def test_what_is_no_file_keeps_nothing(cooler: cosim.Model, tmp_path: pathlib.Path) -> None:
+    pipe = tmp_path / "pipe"
+    os.mkfifo(pipe)
+    paths: List[Any] = ["/dev/full", "/dev/zero", tmp_path, pipe]
+    for path in paths:
+        with pytest.raises(cosim.UnfitValue, match="it isn't a file"):
+            cosim.sweep(cooler, {"cooler.rate": ["0.25"]}, keep=path)
+
+
+def test_a_long_file_of_another_sort(cooler: cosim.Model, tmp_path: pathlib.Path) -> None:
+    """A file of many gigabytes that takes no room on the disk: no more than a line of it is read."""
+    keep = tmp_path / "kept"
+    with open(keep, "wb") as file:
+        file.truncate(1 << 34)
+    with pytest.raises(cosim.UnfitValue, match="it isn't a file of a sweep"):
+        cosim.sweep(cooler, {"cooler.rate": ["0.25"]}, keep=keep)
+
+
+def test_measures_of_numpy(cooler: cosim.Model, tmp_path: pathlib.Path) -> None:
+    pytest.importorskip("numpy")
+    wanted = {"whole": 4, "byte": 200, "truth": True, "exact": 0.1, "half": 0.5, "empty": 7, "text": "x"}
+    keep = tmp_path / "kept"
+    for _ in range(2):
+        with concurrent.futures.ThreadPoolExecutor(1) as threads:
+            sweep = cosim.sweep(cooler, {"cooler.rate": ["0.25"]}, measures.of_numpy, threads, keep)
+        assert sweep.rows[0].measures == wanted
+        assert [type(value) for value in sweep.rows[0].measures.values()] == [type(value) for value in wanted.values()]
+    with concurrent.futures.ThreadPoolExecutor(1) as threads:
+        failed = cosim.sweep(cooler, {"cooler.rate": ["0.25"]}, measures.array, threads)
+    assert (failed.rows[0].outcome, failed.rows[0].note[:28]) == ("measure failed", "UnfitValue: a measure is a n")
+
+
+@pytest.mark.parametrize("is_given", [True, False])
+def test_a_process_that_is_killed_is_a_row(cooler: cosim.Model, tmp_path: pathlib.Path, is_given: bool) -> None:
+    keep = tmp_path / "kept"
+    rates = [*RATES[20:30], "0.70"]
+    pool = concurrent.futures.ProcessPoolExecutor(2) if is_given else None
+    sweep = cosim.sweep(cooler, {"cooler.rate": rates}, measures.kills, pool, keep)
+    assert [row.parameters["cooler.rate"] for row in sweep] == [Decimal(rate) for rate in rates]
+    lost = [row for row in sweep if row.outcome == "worker lost"]
+    assert [row.parameters["cooler.rate"] for row in lost] == [Decimal("0.25")]
+    assert lost[0].measures == {} and "terminated" in lost[0].note
+    assert [row.measures["measure"] for row in sweep if row not in lost] == [1 - 3 * Decimal(rate) for rate in rates if rate != "0.25"]
+    # The next call makes the run that was lost.
+    assert sorted(json.loads(line)["literals"][0] for line in keep.read_bytes().splitlines()[1:]) == sorted({*rates} - {"0.25"})
+    if pool:
+        pool.shutdown()
+
+
+def test_runs_of_a_killed_process_are_made_again(cooler: cosim.Model, tmp_path: pathlib.Path) -> None:
+    begun = tmp_path / "begun"
+    begun.touch()
+    sweep = cosim.sweep(cooler, {"cooler.rate": RATES}, functools.partial(measures.kills_once, str(begun)))
+    assert not begun.exists()
+    assert last_of(sweep) == LAST
+
+
+def test_a_pool_that_was_broken_before(cooler: cosim.Model) -> None:
+    with concurrent.futures.ProcessPoolExecutor(1) as pool:
+        with pytest.raises(BrokenProcessPool):
+            pool.submit(os.kill, os.getpid(), 0).result()
+            pool.submit(os._exit, 1).result()
+        assert last_of(cosim.sweep(cooler, {"cooler.rate": RATES[:3]}, measures.last, pool)) == LAST[:3]
+
+
+def test_progress_without_tqdm_is_a_few_lines(
+    cooler: cosim.Model, monkeypatch: pytest.MonkeyPatch, capsys: pytest.CaptureFixture[str]
+) -> None:
+    modules: Dict[str, Any] = sys.modules
+    monkeypatch.setitem(modules, "tqdm", None)
+    rates = [f"{hundredths / 100:.2f}" for hundredths in range(200)]
+    with concurrent.futures.ThreadPoolExecutor(4) as threads:
+        cosim.sweep(cooler, {"cooler.rate": rates}, executor=threads, progress=True)
+        lines = capsys.readouterr().err.splitlines()
+        assert (lines[0], lines[1], lines[-1]) == ("cosim: 0 of 200 runs", "cosim: 10 of 200 runs", "cosim: 200 of 200 runs")
+        assert len(lines) == 21
+        cosim.sweep(cooler, {"cooler.rate": []}, executor=threads, progress=True)
+        assert capsys.readouterr().err == "cosim: 0 of 0 runs\n"
 
 
 def test_frame_has_exact_values(cooler: cosim.Model) -> None:

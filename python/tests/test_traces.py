@@ -1,9 +1,11 @@
 """Traces: values, outcomes and differences."""
 import decimal
+import os
 import pathlib
 import pickle
 from decimal import Decimal
 from fractions import Fraction
+from typing import Any, List
 
 import pytest
 
@@ -126,13 +128,65 @@ def test_to_csv(counter: cosim.Model, examples: pathlib.Path, tmp_path: pathlib.
         ("time,index,a.y\n0,0,1_0\n", "trace.csv:2: a value isn't written as a trace has it"),
         ("time,index,a.y\n0,0,\n", "trace.csv:2: a value isn't written as a trace has it"),
         ("time,index,a.y\n0,0,01\n", "trace.csv:2: a value isn't written as a trace has it"),
+        ("time,index,a.y\n0,0,-0\n", "trace.csv:2: a value isn't written as a trace has it"),
+        ("time,index,a.y\n-1,0,0\n", "trace.csv:2: a value isn't written as a trace has it"),
+        ("time,index,a.y\n0,0," + 41 * "9" + "\n", "trace.csv:2: a value isn't written as a trace has it"),
+        ("time,index,a.y\n0,0,9223372036854775808\n", "trace.csv:2: a.y: 9223372036854775808 is out of the range of Int64"),
+        ("\ufefftime,index,a.y\n0,0,0\n", "trace.csv: it begins with a byte-order mark, which no trace has"),
+        ("time,index,a.y\n0,0,99\n0,0,0\n1,0,1\n", "trace.csv:3: the point 0,0 isn't after the one before it, 0,0"),
+        ("time,index,a.y\n0,0,0\n0,2,0\n0,1,0\n", "trace.csv:4: the point 0,1 isn't after the one before it, 0,2"),
+        ("time,index,a.y\n1,0,1\n0,0,0\n", "trace.csv:3: the point 0,0 isn't after the one before it, 1,0"),
     ],
 )
 def test_tables_that_are_no_trace(counter: cosim.Model, tmp_path: pathlib.Path, table: str, message: str) -> None:
     path = tmp_path / "trace.csv"
-    path.write_text(table)
+    path.write_text(table, encoding="utf-8")
     with pytest.raises(cosim.UnfitValue, match=message):
         counter.read_trace(path)
+
+
+def test_rows_in_reverse_are_no_trace(heater: cosim.Model, examples: pathlib.Path, tmp_path: pathlib.Path) -> None:
+    header, *rows = (examples / "heater.csv").read_bytes().splitlines(True)
+    path = tmp_path / "trace.csv"
+    path.write_bytes(header + b"".join(reversed(rows)))
+    with pytest.raises(cosim.UnfitValue, match="trace.csv:3: the point 1740,0 isn't after the one before it, 1800,0"):
+        heater.read_trace(path)
+
+
+def test_values_at_the_ends_of_their_ranges(tmp_path: pathlib.Path) -> None:
+    model = cosim.Model.from_text(COOLER)
+    path = tmp_path / "trace.csv"
+    for least, greatest in (("-92233720368547758.08", "92233720368547758.07"), ("-0.01", "0.00")):
+        path.write_text(f"time,index,cooler.degrees_now,cooler.cold\n0,0,{least},true\n0,1,{greatest},false\n")
+        assert model.read_trace(path)["cooler.degrees_now"] == [Decimal(least), Decimal(greatest)]
+    path.write_text("time,index,cooler.degrees_now,cooler.cold\n0,0,92233720368547758.08,true\n")
+    with pytest.raises(cosim.UnfitValue, match="out of the range of Fixed 2"):
+        model.read_trace(path)
+    path.write_text("time,index,cooler.degrees_now,cooler.cold\n0,0,-0.00,true\n")
+    with pytest.raises(cosim.UnfitValue, match="isn't written as a trace has it"):
+        model.read_trace(path)
+
+
+def test_files_without_an_end(counter: cosim.Model, tmp_path: pathlib.Path) -> None:
+    with pytest.raises(cosim.UnfitValue, match="the first line isn't time,index,a.y"):
+        counter.read_trace("/dev/zero")
+    model = cosim.Model.from_text(COOLER + "rows 4\n")
+    path = tmp_path / "trace.csv"
+    model.run().to_csv(path)
+    assert len(model.read_trace(path)) == 4
+    with open(path, "ab") as file:
+        file.write(1000 * b"40,0,0.00,true\n")
+    with pytest.raises(cosim.UnfitValue, match="it is longer than a trace of this model, which has at most 4 rows"):
+        model.read_trace(path)
+
+
+def test_paths_of_all_kinds(counter: cosim.Model, examples: pathlib.Path, tmp_path: pathlib.Path) -> None:
+    path = tmp_path / "trace.csv"
+    counter.run().to_csv(os.fsencode(path))
+    names: List[Any] = [path, str(path), os.fsencode(path)]
+    for name in names:
+        assert counter.read_trace(name)["a.y"] == [0, 1, 2, 3]
+    assert cosim.Model.read(os.fsencode(examples / "counter.cosim")).name == str(examples / "counter.cosim")
 
 
 def test_diff() -> None:

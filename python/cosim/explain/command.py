@@ -1,22 +1,21 @@
 """The command ./explain."""
-import os
 import shlex
 from typing import Dict, Mapping, Sequence
 
 from ..documents import RULES, SOURCES, page
 from ..errors import ProgramFailed, Refused, Unjoinable, refused
-from ..joining import join_texts, read_file
-from ..program import ACCEPTED, NO_PROGRAM, REFUSED, ask, ask_first_byte
-from ..repository import LONGEST_VERIFIED
+from ..joining import join_texts
+from ..program import ask, ask_first_byte
+from ..repository import LONGEST_TEXT, LONGEST_VERIFIED
 from ..sources import Source
-from ..streams import clean_name, note, read_at_most, write_output
+from ..statuses import Status
+from ..streams import clean_name, files_of, note, read_file, write_output
 from .inputs import Input, has_groups, read_kind
 from .notes import asked_for, counts_asked_for
 from .refusals import WITHOUT_FORM, shown
 
-# The statuses where a file can't be read, and where words have no form or what they ask for isn't there.
-NO_FILE = 1
-NO_FORM = 2
+# How each note of the program begins.
+OF_PROGRAM = "cosim:"
 
 
 def describe_refusal(error: Refused, text: bytes) -> str:
@@ -34,14 +33,13 @@ def explain_file(path: str) -> int:
     """Judges a file, and explains why it is refused. Returns the status."""
     name = clean_name(path)
     try:
-        with open(path, "rb") as file:
-            given = read_kind(read_at_most(file, LONGEST_VERIFIED), clean_name(shlex.quote(path)))
+        given = read_kind(read_file(path, LONGEST_VERIFIED), clean_name(shlex.quote(path)))
     except (OSError, ValueError) as error:
         note(f"{name}: {getattr(error, 'strerror', None) or error}")
-        return NO_FILE
+        return Status.NO_FILE
     if not given.command:
         note(f"{name}: {given.accepted}")
-        return NO_FORM
+        return Status.NO_FORM
     return explain_input(given, Source(path, path), {path: given.text})
 
 
@@ -52,7 +50,7 @@ def explain_input(given: Input, source: Source, texts: Mapping[str, bytes]) -> i
         error = refused(given.text, answer.line, answer.rule, "", source)
         write_output(describe_refusal(error, texts.get(error.file or "", b"")))
         return answer.status
-    if answer.status == ACCEPTED:
+    if answer.status == Status.ACCEPTED:
         write_output(f"{clean_name(source.name)}: {given.accepted}")
     return answer.status
 
@@ -62,20 +60,20 @@ def explain_files(paths: Sequence[str]) -> int:
     texts: Dict[str, bytes] = {}
     try:
         for path in paths:
-            texts[path] = read_file(path)
+            texts[path] = read_file(path, LONGEST_TEXT)
         joined = join_texts([(path, texts[path]) for path in paths])
     except OSError as error:
         note(f"{clean_name(error.filename)}: {error.strerror}")
-        return NO_FILE
+        return Status.NO_FILE
     except Refused as error:
         write_output(describe_refusal(error, texts[error.file or ""]))
-        return REFUSED
+        return Status.REFUSED
     except Unjoinable as error:
         write_output(error.message)
-        return REFUSED
+        return Status.REFUSED
     except ProgramFailed as error:
         note(error.message)
-        return NO_PROGRAM if error.status is None else error.status
+        return Status.NO_PROGRAM if error.status is None else error.status
     run = "./cosim flatten | ./cosim run" if has_groups(joined.text) else "./cosim run"
     command = "flatten" if has_groups(joined.text) else "check"
     return explain_input(Input(joined.text, command, f"accepted; run it by tools/join FILE .. | {run}"), joined.source, texts)
@@ -85,25 +83,25 @@ def explain_number(kind: str, number: int) -> int:
     text = page(kind, number)
     if not text:
         note(f"there is no {kind} {number} in {SOURCES[kind][0]}")
-        return NO_FORM
+        return Status.NO_FORM
     write_output(text)
-    return ACCEPTED
+    return Status.ACCEPTED
 
 
 def main(document: str, words: Sequence[str]) -> int:
+    """Explains what the words ask for. Words that are no note, and begin as none does, are files. Returns the status."""
     if list(words) in (["help"], ["--help"], ["-h"]):
         write_output(document.strip())
-        return ACCEPTED
+        return Status.ACCEPTED
     asked = asked_for(" ".join(words))
     if asked:
         return explain_number(*asked)
     counts = counts_asked_for(" ".join(words))
     if counts:
         write_output(counts)
-        return ACCEPTED
-    if len(words) == 1 and words[0] not in SOURCES and not words[0].startswith("-"):
-        return explain_file(words[0])
-    if len(words) > 1 and any(map(os.path.exists, words)) and not any(word.startswith("-") for word in words):
-        return explain_files(words)
-    note(document.strip())
-    return NO_FORM
+        return Status.ACCEPTED
+    paths = files_of(words)
+    if not paths or words[0] in (*SOURCES, OF_PROGRAM):
+        note(document.strip())
+        return Status.NO_FORM
+    return explain_file(paths[0]) if len(paths) == 1 else explain_files(paths)

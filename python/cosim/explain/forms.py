@@ -342,7 +342,7 @@ def changes(line: List[str], place: str, version: int) -> Iterator[List[str]]:
     if fault is None:
         return
     at, found = fault.place, line[fault.place] if fault.place < len(line) else ""
-    front, rest = line[:at], line[at + 1 :]
+    before, rest = line[:at], line[at + 1 :]
     if at == 0:
         is_misspelt = found not in reserved_words()
         begun = [form.parts[0] for form in forms_at(place, version) if len(form.parts[0]) > 1 and is_misspelt]
@@ -351,25 +351,25 @@ def changes(line: List[str], place: str, version: int) -> Iterator[List[str]]:
             yield rest
         return
     if found == "<-" and line[0] == "connect":
-        yield ["connect", *rest, "->", *front[1:]]
+        yield ["connect", *rest, "->", *before[1:]]
         return
-    for text in stand_ins(front, found, fault):
+    for text in stand_ins(before, found, fault):
         if found in MISTAKEN or text.lower() == found.lower():
-            yield [*front, text, *rest]
+            yield [*before, text, *rest]
         if text != ":=" and text not in ("(", "then", "else"):
-            yield [*front, text, *line[at:]]
+            yield [*before, text, *line[at:]]
     is_operator = found == "+" and fault.expected not in ((LITERAL,), (EXPRESSION,))
     is_measure = WORD.fullmatch(found) and fault.expected == (END,) and NUMBER.fullmatch(line[at - 1])
     if (found in NEEDLESS and not is_operator) or is_measure or line[0] == "end":
-        yield front + rest
+        yield before + rest
 
 
-def stand_ins(front: Sequence[str], found: str, fault: Fault) -> Iterator[str]:
+def stand_ins(before: Sequence[str], found: str, fault: Fault) -> Iterator[str]:
     """What may be written where something else is expected."""
     for expected in fault.expected:
         if expected == TYPE:
             yield from [word for word in type_words() if word.lower() == found.lower()] if WORD.fullmatch(found) else ["Int64"]
         elif expected == LITERAL and not found:
-            yield "false" if "Bool" in front else "0"
+            yield "false" if "Bool" in before else "0"
         elif expected.startswith("`"):
             yield expected.strip("`")

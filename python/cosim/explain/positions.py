@@ -1,5 +1,6 @@
 """Rules 32, 33 and 36: what is wrong with the position of a saved text, and with a record of a table."""
 import csv
+import functools
 import io
 import re
 from decimal import Decimal
@@ -8,8 +9,9 @@ from typing import Iterator, List, NamedTuple, Optional, Tuple
 from ..canonical import System, read_system
 from ..grammar import RANGES
 from ..lines import LONGEST_NAME, WORD
-from ..program import ACCEPTED, ask
+from ..program import ask
 from ..repository import reserved_words
+from ..statuses import Status
 
 # The cases that docs/RULES.md has a cure of its own for.
 MISSING = "a missing line of a position"
@@ -56,6 +58,7 @@ class Reason(NamedTuple):
     case: str
 
 
+@functools.lru_cache(maxsize=None)
 def range_of(type_name: str) -> Tuple[int, int]:
     """The least and the greatest word of a type."""
     if type_name == "Bool":
@@ -64,7 +67,7 @@ def range_of(type_name: str) -> Tuple[int, int]:
     return (0, 2**bits - 1) if type_name.startswith("U") else (-(2 ** (bits - 1)), 2 ** (bits - 1) - 1)
 
 
-def untold_position(text: bytes, number: int) -> Optional[Reason]:
+def malformed_position(text: bytes, number: int) -> Optional[Reason]:
     """Which word of a line breaks rule 32."""
     lines = [line.rstrip("\r") for line in text.decode("latin-1").split("\n")]
     form = FORMS[number - 1] if number <= len(FORMS) else FORM_OF_STATE
@@ -102,16 +105,22 @@ def unfit_position(text: bytes) -> Optional[Reason]:
     states = [line for line in lines if line.startswith("state ")]
     states = states[: next((count for count, line in enumerate(lines[3:]) if not line.startswith("state ")), len(states))]
     answer = ask("print", "\n".join(lines[3 + len(states) :]).encode("latin-1"))
-    if answer.status != ACCEPTED or not (lines[1].startswith("row ") and lines[2].startswith("at ")):
+    if answer.status != Status.ACCEPTED or not (lines[1].startswith("row ") and lines[2].startswith("at ")):
         return None
     return next(unfit(read_system(answer.output), lines, [line.split(" ")[1:] for line in states]), None)
+
+
+def row_budget(system: System) -> int:
+    """The most rows of a run: the number of the line `rows`, or the default of the version."""
+    of_version_2, of_version_1 = ROWS_OF_VERSION_2, min(RANGES["R"][1], ROWS_OF_ALL // max(1, len(system.instances)))
+    return int(system.numbers.get("rows", of_version_2 if system.numbers["cosim"] == "2" else of_version_1))
 
 
 def unfit(system: System, lines: List[str], states: List[List[str]]) -> Iterator[Reason]:
     names, ticks = list(system.instances), 10**system.resolution
     version, numbers = system.numbers["cosim"], system.numbers
     row, (time, index) = int(lines[1].split()[1]), map(int, lines[2].split()[1:3])
-    rows = int(numbers.get("rows", ROWS_OF_VERSION_2 if version == "2" else min(RANGES["R"][1], ROWS_OF_ALL // len(names))))
+    rows = row_budget(system)
     zero, stop = int(numbers.get("zero", ZERO_BUDGETS[version])), Decimal(numbers["stop"]) * ticks
     if row >= rows:
         yield Reason(2, f"the row is {row}, and a run has at most {rows} rows, from 0", ROW)

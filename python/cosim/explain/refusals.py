@@ -99,7 +99,7 @@ def advice_on_position(text: bytes, line: int, rule: int, title: str, cure: str)
 
 def reason_on_position(text: bytes, line: int, rule: int) -> Optional[positions.Reason]:
     if rule == 32:
-        return positions.untold_position(text, line)
+        return positions.malformed_position(text, line)
     return positions.unfit_position(text) if rule == 33 else positions.unfit_record(text, line)
 
 

@@ -4,6 +4,7 @@ from typing import Mapping, Optional, Sequence, Tuple, Union
 from ..errors import UnfitValue
 from ..files import write_at_once
 from ..models import Model
+from ..streams import Path
 from ..traces import Trace
 from ..values import Given
 
@@ -16,7 +17,7 @@ def report(
     other: Optional[Trace] = None,
     tolerance: Union[Given, Mapping[str, Given]] = 0,
     names: Optional[Sequence[str]] = None,
-    path: Optional[str] = None,
+    path: Optional[Path] = None,
     labels: Tuple[str, str] = LABELS,
 ) -> bytes:
     """The page of a model and its trace, as bytes of HTML, which are written to a file too, whole or not at all, where one is
@@ -26,7 +27,8 @@ def report(
     `other` is given the page lists what `trace.diff(other, tolerance)` lists, and calls the two traces by `labels`.
 
     The page has plotly.js in itself, and requires a browser with JavaScript. ImportError where the package plotly isn't there,
-    UnknownName where there is no such column or the two traces have other columns, and UnfitValue where a tolerance is none.
+    UnknownName where there is no such column or the two traces have other columns, UnfitValue where a tolerance is none, and OSError
+    where the file can't be written. A file that is there keeps its mode.
     """
     from .page import page_of
 

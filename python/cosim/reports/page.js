@@ -5,8 +5,9 @@
 (() => {
   const data = JSON.parse(document.getElementById("data").textContent);
   // The rows and columns that a table shows at once, the points of one time that are listed under the cursor, and into how
-  // many parts the points in view are divided where a plot draws not all of them. PAPER is the width of a plot on paper.
-  const ROWS = 100, COLUMNS = 40, LISTED = 12, PARTS = 1000, MOST_DRAWN = 4 * PARTS, PAPER = 680;
+  // many parts the points in view are divided where a plot draws not all of them. PAPER is the width of a plot on paper, and
+  // AROUND the space left of the first component of a picture.
+  const ROWS = 100, COLUMNS = 40, LISTED = 12, PARTS = 1000, MOST_DRAWN = 4 * PARTS, PAPER = 680, AROUND = 40;
   const COLORS = ["#1f5fa8", "#c2571a"], DIFFERS = "#b00020", QUIET = "#8b949e";
   const count = number => number.toLocaleString("en-US");
   function make(name, parent, text, attributes) {
@@ -42,16 +43,33 @@
   const escaped = text => text.replace(/&/g, "&amp;").replace(/</g, "&lt;").replace(/>/g, "&gt;");
   const numberOf = (column, field) => column.type === "Bool" ? Number(field === "true") : Number(field);
 
-  // What is shown of a row under the cursor: its value, or those of all points at its time.
+  // The differences by column, time and index; the times of two traces may have other decimals.
+  const plain = time => time.includes(".") ? time.replace(/\.?0+$/, "") : time;
+  const keyOf = (place, time, index) => `${place} ${plain(time)} ${index}`;
+  const differing = new Map(data.differences.map(each => [keyOf(each[2], each[0], each[1]), each]));
+
+  // What is shown after the value of a row that differs.
+  function differenceOf(trace, place, row) {
+    if (!differing.size) return "";
+    const number = traces.indexOf(trace), time = trace.fields(0)[row], index = trace.fields(1)[row];
+    if (differing.has(keyOf(-1, time, index))) return `, no such point in ${traces[1 - number].label}`;
+    const found = differing.get(keyOf(place, time, index));
+    if (!found) return "";
+    const other = found[4 - number];
+    return `, differs from ${other === null ? "absent" : other}`;
+  }
+
+  // What is shown of a row under the cursor: its value and what differs there, or those of all points at its time.
   function hoverText(trace, place, row) {
     const fields = trace.fields(place + 2), indices = trace.fields(1);
     const label = traces.length > 1 ? trace.label + ", " : "";
     const head = `${label}time ${trace.fields(0)[row]}`;
-    if (trace.next[row] - trace.first[row] === 1) return escaped(`${head}, index ${indices[row]}: ${fields[row]}`);
+    const valueAt = other => `index ${indices[other]}: ${fields[other] || "absent"}${differenceOf(trace, place, other)}`;
+    if (trace.next[row] - trace.first[row] === 1) return escaped(`${head}, ${valueAt(row)}`);
     const from = Math.max(trace.first[row], Math.min(row - LISTED / 2, trace.next[row] - LISTED));
     const lines = [head];
     const to = Math.min(trace.next[row], from + LISTED);
-    for (let other = from; other < to; other++) lines.push(`index ${indices[other]}: ${fields[other] || "absent"}`);
+    for (let other = from; other < to; other++) lines.push(valueAt(other));
     if (trace.next[row] - trace.first[row] > LISTED) lines.push(`of ${trace.next[row] - trace.first[row]} points`);
     return lines.map(escaped).join("<br>");
   }
@@ -121,12 +139,11 @@
     return { ...drawing, mode: "lines", line, ...(column.type === "Bool" ? { fill: "tozeroy", fillcolor: color + "40" } : {}) };
   }
 
-  // Marks the points at which the two traces differ.
+  // Marks the points at which the two traces differ. A mark has no text of its own: it would be shown far from the mark too.
   function differencesOf(place) {
     const found = data.differences.filter(each => each[2] === place);
-    const shown = found.map(each => `differs: ${each[3] === null ? "absent" : each[3]} and ${each[4] === null ? "absent" : each[4]}`);
     return {
-      type: "scatter", mode: "markers", name: "differs", hoverinfo: "text", text: shown.map(escaped),
+      type: "scatter", mode: "markers", name: "differs", hoverinfo: "skip",
       x: found.map(each => Number(each[0])),
       y: found.map(each => numberOf(data.columns[place], each[3] === null ? each[4] : each[3])),
       marker: { color: DIFFERS, size: 7, symbol: "x-thin", line: { color: DIFFERS, width: 1.5 }, maxdisplayed: MOST_DRAWN }, cliponaxis: false,
@@ -230,6 +247,25 @@
     fill();
   }
 
+  // Says which differences have no mark.
+  function addLimitsOfMarks(parent) {
+    const marked = data.differences.length;
+    if (data.differing > marked) make("p", parent, `The first ${count(marked)} of ${count(data.differing)} differences are marked, and said under the cursor.`);
+    if (marked > MOST_DRAWN) make("p", parent, `Of more than ${count(MOST_DRAWN)} marks in view a plot shows a part. Zoom in to see each mark.`);
+  }
+
+  // A picture that is larger than its place opens at its leftmost component: a corner may be empty. Components without a
+  // connection are below all others.
+  function showFirstComponent() {
+    const area = document.querySelector(".picture"), all = area ? [...area.querySelectorAll(".box")] : [];
+    if (!all.length) return;
+    const joined = all.filter(each => each.querySelector(".in, .out")), left = each => each.getBoundingClientRect().left;
+    const box = (joined.length ? joined : all).reduce((one, other) => left(other) < left(one) ? other : one);
+    const from = area.getBoundingClientRect(), to = box.getBoundingClientRect();
+    area.scrollLeft += to.left - from.left - AROUND;
+    area.scrollTop += (to.top + to.bottom - from.top - from.bottom) / 2;
+  }
+
   function addChoice(parent, figures) {
     const bar = make("form", parent, "", { class: "bar controls" });
     const input = make("input", make("label", bar, "draw the column "), "", { list: "columns" });
@@ -255,6 +291,7 @@
     const many = `Of more than ${count(MOST_DRAWN)} points in view a plot draws the first, the least, the greatest and the last one`;
     if (hasMany) make("p", parent, `${many} in each of ${count(PARTS)} parts. Zoom in to see each point.`);
     if (shapes.length) make("p", parent, "A dotted line is at each time with several points.");
+    addLimitsOfMarks(parent);
     addControls(parent);
     const figures = make("div", null);
     if (data.drawn.length < data.columns.length) {
@@ -344,6 +381,7 @@
     addTable(parent, headings, cells.length, (row, place) => cells[row][place], headings.length);
   }
 
+  showFirstComponent();
   addPlots();
   addDifferences();
   addRows();

@@ -138,7 +138,8 @@ def text_section(model: Model) -> Part:
 
 
 def source(written: bytes) -> Part:
-    return element("pre", lines(written.decode("utf-8", "replace").replace("\r\n", "\n")), {"tabindex": "0"})
+    """A text with all its lines. A browser drops the first line feed of the element, so that comes before them."""
+    return element("pre", "\n" + lines(written.decode("utf-8", "replace").replace("\r\n", "\n")), {"tabindex": "0"})
 
 
 def contents(headings: Iterable[Tuple[str, str]]) -> Part:

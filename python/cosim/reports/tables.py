@@ -59,7 +59,7 @@ def data_of_difference(found: Difference, resolution: int, places: Mapping[str, 
 def data_of_page(
     trace: Trace, other: Optional[Trace], found: Sequence[Difference], names: Optional[Sequence[str]], labels: Tuple[str, str]
 ) -> Data:
-    """All data of a page."""
+    """All data of a page: `differing` is the number of differences, of which the first are listed."""
     traces = [trace] if other is None else [trace, other]
     resolution = max(each.resolution for each in traces)
     places = {name: place for place, name in enumerate(trace.names)}
@@ -67,6 +67,7 @@ def data_of_page(
         "columns": [{"name": column.name, "type": column.type, "event": column.is_event} for column in trace.columns],
         "drawn": drawn_columns(trace, names),
         "traces": [data_of_trace(each, trace.names, label) for each, label in zip(traces, labels)],
+        "differing": len(found),
         "differences": [data_of_difference(each, resolution, places) for each in found[:MOST_DIFFERENCES]],
     }
 
