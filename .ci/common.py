@@ -1,4 +1,4 @@
-"""What the checks of the gate share: the program that they try, how they tell of failures, and what they read."""
+"""What the checks of the gate share: the program that they try, how they report failures, and what they read."""
 import os
 import re
 import signal
@@ -7,7 +7,7 @@ import sys
 ROOT = os.path.join(os.path.dirname(os.path.abspath(__file__)), "..")
 BUILT = "crates/cosim_app/out/cosim_app"
 
-# The notes on words that have no form, on streams that fail, and on want of memory.
+# The notes on words that have no form, on streams that fail, and on lack of memory.
 USAGE = "cosim: usage\n"
 READ_FAULT = "cosim: read fault\n"
 WRITE_FAULT = "cosim: write fault\n"
@@ -16,12 +16,12 @@ NO_MEMORY = "cosim: no memory\n"
 # The row of the table of commands for words without a form.
 OTHER_WORDS = "any other words"
 
-# How much of a line is told, in characters.
+# How much of a line is reported, in characters.
 LONGEST_TOLD = 200
 
 
 class Tally:
-    """Counts what passed and what failed, and tells of each failure."""
+    """Counts what passed and what failed, and reports each failure."""
 
     def __init__(self):
         self.passed = self.failed = 0
@@ -117,7 +117,7 @@ def cured(text, cure):
 
 
 def read_commands():
-    """The table of commands in docs/COMMANDS.md: of each row the command, its options as they are told, and its statuses. The last row
+    """The table of commands in docs/COMMANDS.md: of each row the command, its options as they are written, and its statuses. The last row
     is that of other words."""
     table = re.search(r"^\| words \|.*?\n\n", read("docs/COMMANDS.md").decode(), re.M | re.S)[0]
     for row in table.rstrip().splitlines()[2:]:

@@ -6,6 +6,7 @@ numbers, and with closed streams. Each call asks the program that is tried.
 import glob
 import os
 import re
+import shutil
 
 from common import cured, read, read_mistakes
 
@@ -126,7 +127,7 @@ def explain(trial, text, name="tried"):
 
 
 def rows_behind(path):
-    """The sections of a file of tests: of each its name, its text and its rows, whose cells stand between bars."""
+    """The sections of a file of tests: of each its name, its text and its rows, whose cells are between bars."""
     for part in re.split(r"^=== ", read(path).decode(), flags=re.M)[1:]:
         name, _, rest = part.partition("\n")
         text, _, rows = rest.partition("---\n")
@@ -277,11 +278,17 @@ def notes_of_program(trial):
 def words_without_form(trial):
     """Words without a form, files that can't be read, and a program that isn't there."""
     form = trial.ask(["./explain", "--help"])[2]
-    for words in ([], ["rule"], ["rule", "x"], ["law", "3"], ["--rule"], ["a", "b", "c"]):
+    for words in ([], ["rule"], ["rule", "x"], ["--rule"], ["--rule", "x"], ["--"], ["cosim:", "line", "x"]):
         trial.tally.compare(f"explain {words}", trial.ask(["./explain", *words]), (2, form, b""))
     missing = "No such file or directory"
     for path, why in (("nowhere.cosim", missing), ("docs", "Is a directory"), ("", missing)):
         trial.tally.compare(f"explain {path!r}", trial.ask(["./explain", path]), (1, f"{path}: {why}\n".encode(), b""))
+    for words in (["nix1", "nix2"], ["nix1", "examples/heater.cosim"], ["examples/heater.cosim", "nix1"], ["--", "nix1"]):
+        trial.tally.compare(f"explain {words}", trial.ask(["./explain", *words]), (1, f"nix1: {missing}\n".encode(), b""))
+    for name in ("true", "false", "echo", "cat"):
+        path = shutil.which(name)
+        got = trial.call(["./explain", "examples/heater.cosim"], COSIM=path)
+        trial.tally.compare(f"explain, COSIM={path}", got, (69, f"{path}: it isn't cosim\n".encode(), b""))
     got = trial.call(["./explain", "examples/heater.cosim"], COSIM="/nowhere")
     trial.tally.compare("explain, no program", got, (69, b"/nowhere: No such file or directory\n", b""))
 

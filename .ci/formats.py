@@ -126,6 +126,12 @@ def formatted_files(trial):
         trial.tally.compare(f"format {name}", trial.ask(["tools/format", name]), (0, b"", b""))
         kept = (read(path), os.stat(path).st_mode & 0o777, os.path.islink(link))
         trial.try_that(f"format {name}: {kept}", kept == (FORMATTED, 0o640, True))
+    write(path, PLAIN, 0o640)
+    wanted = (1, b"", b"format.cosim: would be formatted\n")
+    trial.tally.compare("format --check --", trial.ask(["tools/format", "--check", "--", "format.cosim"]), wanted)
+    for words, name in ((["--", "-x"], "-x"), (["--", "--check"], "--check")):
+        wanted = (4, f"{name}: No such file or directory\n".encode(), b"")
+        trial.tally.compare(f"format {words}", trial.ask(["tools/format", *words]), wanted)
     refusals = [
         ("a refused model", PLAIN.replace(b"=n", b"=m"), b"it is refused at line 4 by rule 9, and isn't formatted"),
         ("a wide line", WIDE, b"formatted it would break rule 3 at line 4, so it stays as it is"),
@@ -143,7 +149,7 @@ def formatted_files(trial):
     trial.tally.compare("format, a hard link", trial.ask(["tools/format", "format.cosim"]), (0, b"", b""))
     trial.try_that("format keeps a hard link", os.path.samefile(path, other) and read(other) == FORMATTED)
     os.remove(other)
-    left = glob.glob(os.path.join(trial.clone, ".format-*"))
+    left = glob.glob(os.path.join(trial.clone, ".cosim-*"))
     trial.try_that(f"format leaves {left}", not left)
 
 

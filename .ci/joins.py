@@ -93,9 +93,10 @@ def join_calls(trial):
         note = f"{path}: {why}\n".encode()
         trial.tally.compare(f"join {path!r}", trial.ask(["tools/join", *FILES, path]), (4, note, b""))
         trial.tally.compare(f"explain .. {path!r}", trial.ask(["./explain", *FILES, path]), (1, note, b""))
-    note = f"{UNITS[0]} is given twice\n".encode()
-    trial.tally.compare("join, twice", trial.ask(["tools/join", UNITS[0], *FILES]), (3, note, b""))
-    trial.tally.compare("explain, twice", trial.ask(["./explain", UNITS[0], *FILES]), (3, b"", note))
+    for other in (UNITS[0], f"./{UNITS[0]}", f"{FOLDER}/units/../units/battery.cosim"):
+        note = f"{UNITS[0]} is given twice{'' if other == UNITS[0] else f', once as {other}'}\n".encode()
+        trial.tally.compare(f"join, twice, {other}", trial.ask(["tools/join", other, *FILES]), (3, note, b""))
+        trial.tally.compare(f"explain, twice, {other}", trial.ask(["./explain", other, *FILES]), (3, b"", note))
     note = f"no file has the system, which has instances and `stop`: {', '.join(UNITS)}\n".encode()
     trial.tally.compare("join, no system", trial.ask(["tools/join", *UNITS]), (3, note, b""))
     status, notes, output = trial.ask(["./explain", *FILES, "/dev/zero"])
@@ -111,6 +112,9 @@ def join_calls(trial):
     trial.try_that("join, a name that could forge a line", trial.ask(["tools/join", name, SYSTEM])[1].startswith(shown))
     os.remove(os.path.join(trial.clone, name))
     wanted = trial.ask(["tools/join", *FILES])
+    trial.tally.compare("join --", trial.ask(["tools/join", "--", *FILES]), wanted)
+    trial.tally.compare("explain --", trial.ask(["./explain", "--", *FILES]), (0, b"", JOINED))
+    trial.tally.compare("join -- -x", trial.ask(["tools/join", "--", "-x"]), (4, b"-x: No such file or directory\n", b""))
     ascii_alone = {"COSIM": trial.program, "LC_ALL": "C", "PYTHONCOERCECLOCALE": "0", "PYTHONUTF8": "0"}
     trial.tally.compare("join, LC_ALL=C", trial.call(["tools/join", *FILES], **ascii_alone), wanted)
     trial.tally.compare("join, python3 -S", trial.ask(["python3", "-S", "tools/join", *FILES]), wanted)

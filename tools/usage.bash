@@ -139,7 +139,7 @@ judge_option() {
   fi
 }
 
-# Says which option is lacking. What stands in its place is shown where the call is shown.
+# Says which option is missing. The call is shown with what it has in that place.
 judge_required() {
   local command=$1 name
   for name in "${cosim_required[@]}"; do

@@ -38,7 +38,7 @@ LAST_RULE = 37
 
 
 class Answer(NamedTuple):
-    """The status, None where there was no answer in time; what was put; and the notes."""
+    """The status, None where there was no answer in time; the output; and the notes."""
 
     status: object
     output: bytes
@@ -62,7 +62,7 @@ def options_of(words, document, **defaults):
 
 
 def seeded(options):
-    """Random numbers by the seed of the options, or by one that is drawn and told."""
+    """Random numbers by the seed of the options, or by one that is drawn and printed."""
     seed = options["seed"] if options["seed"] is not None else random.randrange(10**9)
     print(f"seed {seed}", flush=True)
     return random.Random(seed)
@@ -98,15 +98,15 @@ def complaint(word, text, answer):
 
 def refusal_complaint(text, output, line, rule):
     if output:
-        return f"{output[:60]!r} is put with a refusal"
+        return f"{output[:60]!r} is printed with a refusal"
     if line > text.count(b"\n") + 1 or rule > LAST_RULE:
         return f"there is no line {line}, or no rule {rule}"
     return None
 
 
 def trace_complaint(output, status, told):
-    """What is wrong with a trace whose end is told by a note: it has a header, rows of as many fields, and ends at the note's point;
-    but where an output faults its point has no row."""
+    """What is wrong with a trace whose end a note reports. It has a header, rows of as many fields, and ends at the note's point. Where
+    an output faults its point has no row."""
     header, *rows = output.split(b"\n")[:-1]
     if not output.endswith(b"\n") or not header.startswith(b"time,index"):
         return "the trace has no header, or an open row"
@@ -114,5 +114,5 @@ def trace_complaint(output, status, told):
         return "a row has more fields than the header, or fewer"
     last = rows[-1] if rows else header
     if status in (6, 7, 9) and last.split(b",")[:2] != [told["time"], told["index"]]:
-        return f"the note tells of {told[0]!r}, and the last row is {last[:60]!r}"
+        return f"the note names {told[0]!r}, and the last row is {last[:60]!r}"
     return None

@@ -5,7 +5,7 @@
  *     REFUSE_FROM    the first call that fails, counted from 1
  *     REFUSE_COUNT   how many fail from there on
  *     REFUSE_SHORT   1: reads and writes that don't fail take one byte at most
- *     REFUSE_TELL    a file descriptor on which it is told at the end, in decimal, how many calls of the kind there were
+ *     REFUSE_TELL    a file descriptor to which the number of calls of the kind is written at the end, in decimal
  *
  * Calls of several threads are counted as they come. */
 #define _GNU_SOURCE

@@ -256,8 +256,8 @@ def long_nests():
         ("names that lead to as many inputs as are kept, of twins in seven places", twin_places(7, 8, 1)),
         ("names that lead by two lines to as many inputs as are kept, of twins in seven places", twin_places(7, 8, 2)),
         ("names on levels that lead in no order to as many inputs as are kept, of twins in seven places", twin_levels(7, 8, 4)),
-        ("names that lead by two lines to 39 inputs of twins each, which are put in nine places", few_of_twins(9, 7, 39, 2)),
-        ("names that lead by six lines to 71 inputs of twins each, which are put in nine places", few_of_twins(9, 7, 71, 6)),
+        ("names that lead by two lines to 39 inputs of twins each, which are added in nine places", few_of_twins(9, 7, 39, 2)),
+        ("names that lead by six lines to 71 inputs of twins each, which are added in nine places", few_of_twins(9, 7, 71, 6)),
         ("trees of names that lead by two lines each to 40 inputs of twins, in twelve places", twin_trees(12, 5, 40, 2)),
         ("trees of names that lead by two lines each to 72 inputs of twins, in nine places", twin_trees(9, 7, 72, 2)),
         ("trees of names that lead by five lines each to 40 inputs of twins, in twelve places", twin_trees(12, 5, 40, 5)),
@@ -266,9 +266,9 @@ def long_nests():
         ("trees of names that lead to half of 48 inputs of twins each, in ten places", twin_mixtures(10, 6, 48, 23)),
         ("trees of names that lead by three lines to most of 42 inputs of twins each, in twelve places", twin_mixtures(12, 5, 42, 35, 3)),
         ("trees of names that lead to more inputs of twins each than are kept, in nine places", twin_mixtures(9, 7, KEPT + 5, KEPT + 2)),
-        ("names that lead to inputs whose numbers stand far apart, in eight places, by many lines", numbers_apart(8, 118, 8_000, 4)),
-        ("many names that lead to inputs whose numbers stand far apart, in eight places", numbers_apart(8, 118, 15_000, 4)),
-        ("names that lead to inputs whose numbers stand as far apart as they may, and to too many", numbers_at_ends()),
+        ("names that lead to inputs whose numbers are far apart, in eight places, by many lines", numbers_apart(8, 118, 8_000, 4)),
+        ("many names that lead to inputs whose numbers are far apart, in eight places", numbers_apart(8, 118, 15_000, 4)),
+        ("names that lead to inputs whose numbers are as far apart as they may be, and to too many", numbers_at_ends()),
         ("names on eight levels that lead to one input, in 14 places of each of three parts", few_inside(3, 14)),
         ("trees of names that lead by two lines each to 16 inputs, in nine places", twin_trees(9, 1, 16, 2)),
         ("lines of a group in as many scopes as there may be", lines_in_scopes()),
@@ -358,7 +358,7 @@ def shuffled(count, seed):
 
 
 def names_in_no_order(inputs, names, connections):
-    """As `names_to_inputs`, but names stand in no order, and those that lead to them in another."""
+    """As `names_to_inputs`, but names are in no order, and those that lead to them in another one."""
     inner = "group J\ninstance d:M\nend\n" + leads(inputs, "y") + "group H\ninstance j:J\nend\n"
     inner += "".join(f"in {name_of(number)}->j.y\n" for number in shuffled(names, 1)) + "group G\ninstance k:H\nend\n"
     inner += "".join(f"in x->k.{name_of(number)}\n" for number in shuffled(names, 2))
@@ -533,7 +533,7 @@ def names_by_two_lines(connections, places):
 
 def twins(inner):
     """Instances of a group whose names are underscores, and inputs that lead to as many inputs of theirs as are kept, each in an order of its
-    own, and one that leads to one more. Where such instances stand in others, names join to the same ones, and scopes in one place are those
+    own, and one that leads to one more. Where such instances are inside others, names join to the same ones, and scopes in one place are those
     in others. The orders, and the text."""
     inputs = KEPT // inner
     text = "group J\ninstance d:M\nend\n" + "".join(f"in {name_of(number)}->d.{name_of(number)}\n" for number in range(inputs + 1))
@@ -588,8 +588,8 @@ def few_of_twins(places, inner, inputs, lines):
 
 
 def twin_levels(places, inner, levels):
-    """As `twin_places`, but names stand on so many levels, and each leads to one of the next level too, in no order, so that what is known of
-    them is far from what is known of those that walks come to before and behind them."""
+    """As `twin_places`, but names are on so many levels, and each leads to one of the next level too, in no order, so that what is known of
+    them is far from what is known of those that walks visit before and after them."""
     orders, text = twins(inner)
     tail = twins_connected(places, inner)
     names = [short_name(number) for number in range((LONGEST - len(text + tail) - 1_000) // (38 * levels))]
@@ -633,9 +633,9 @@ def twin_trees(places, inner, inputs, steps):
 
 def twin_mixtures(places, inner, inputs, led_to=None, lines=2):
     """Names on five levels, each of which leads by two lines to names of the next level, in no order, and at last by so many to one of 30 inputs
-    that lead to so many of so many inputs of twins each, all but one where it isn't told; some connections lead to those of the first level in
-    each of so many places. A first one leads to those of the fourth level in another order, so that what is known of names stands in no order
-    in which walks come to them."""
+    that lead to so many of so many inputs of twins each, all but one where no number is given; some connections lead to those of the first level in
+    each of so many places. A first one leads to those of the fourth level in another order, so that what is known of names is in no order
+    in which walks visit them."""
     rows = -(-inputs // inner)
     leading = [(twin, number) for number in range(rows) for twin in range(1, inner + 1)][:inputs]
     orders = [letter for letter in string.ascii_letters if letter not in "thabyxz"][:30]
@@ -670,8 +670,8 @@ def twin_mixtures(places, inner, inputs, led_to=None, lines=2):
 
 def numbers_apart(side, lots, names, connections):
     """So many names, each of which leads by two lines to as many inputs of twins as are kept; some connections lead to them by line after line, in
-    as many places as there are twins, and so to one input more. A first connection leads to lots of 63 other inputs, each of them behind one of
-    those that are kept, so that what is kept of a name stands far apart among all inputs that are met."""
+    as many places as there are twins, and so to one input more. A first connection leads to lots of 63 other inputs, each of them after one of
+    those that are kept, so that what is kept of a name is far apart among all inputs that are met."""
     rows = -(-(KEPT + 1) // side)
     leading = [(twin, number) for number in range(rows) for twin in range(1, side + 1)][: KEPT + 1]
     more = -(-63 * lots // side)
@@ -703,7 +703,7 @@ def numbers_apart(side, lots, names, connections):
 
 
 def numbers_at_ends():
-    """Names that lead by two lines to as many inputs as are kept, of which each stands behind as many others that are met before: so that what is
+    """Names that lead by two lines to as many inputs as are kept, of which each comes after as many others that are met before: so that what is
     known of each name takes most memory. One connection leads to all of them, and so to more than there may be."""
     ports = [name_of(number) for number in range(2 * KEPT)]
     places = [place_name(place) for place in range(64)]
@@ -724,9 +724,9 @@ def numbers_at_ends():
 
 
 def few_inside(parts, places):
-    """An input that leads by few lines to one in each of so many places of as many parts, and so to few more inputs than are put: in each place
+    """An input that leads by few lines to one in each of so many places of as many parts, and so to few more inputs than are added: in each place
     names on eight levels lead by two lines each to one input. As many connections lead to it as there may be, and a first one to the names in
-    another order, so that what is known of them stands in no order in which walks come to them."""
+    another order, so that what is known of them is in no order in which walks visit them."""
     text, led, inside = f"group H\ninstance d:M\nend\nin {name_of(0)}->d.{name_of(0)}\n", [name_of(0)], "H"
     width = (LONGEST - 6_000) // (28 * 8 + 26)
     for level in range(8):
@@ -752,7 +752,7 @@ def place_name(place):
 
 
 def lines_in_scopes():
-    """Lines of a group that stands in as many chains of groups as there may be."""
+    """Lines of a group that is in as many chains of groups as there may be."""
     groups = "group C\ninstance d:D\nend\nin x->d.u\n"
     for number in range(2, 14):
         groups += f"group G{number}\ninstance k:G{number - 1}\nend\nin x->k.x\n"
