@@ -27,7 +27,7 @@ from .outcomes import Outcome
 from .plots import columns_of
 from .reports import report
 from .reports.tables import drawn_columns
-from .running import Table, up_to
+from .running import up_to
 from .statuses import Status
 from .streams import clean_name, note, start, write_output
 from .traces import TIME, Trace
@@ -137,7 +137,7 @@ def read_rows(model: Model, path: str, until: Optional[str]) -> Trace:
     trace = model.read_trace(path)
     if until is None:
         return trace
-    table = up_to(trace.table, seconds_of(until, "until"), Table(model.system, True), True)
+    table = up_to(trace.table, seconds_of(until, "until"), model.table(), True)
     return Trace(table, model.system.columns, trace.resolution, trace.outcome)
 
 

@@ -4,7 +4,7 @@ import os
 import re
 from dataclasses import dataclass
 from fractions import Fraction
-from typing import Dict, Iterable, Iterator, List, Mapping, Optional, Sequence, Tuple, Union
+from typing import Dict, Iterable, Iterator, List, Mapping, NamedTuple, Optional, Sequence, Tuple, Union
 
 from .canonical import Instance, Port, System, Unit, Variable, read_system
 from .errors import CosimError, UnfitValue, UnknownName
@@ -14,8 +14,8 @@ from .nests import read_nest
 from .outcomes import STOPPED, Outcome
 from .program import Called
 from .repository import LONGEST_SAVED, LONGEST_TEXT
-from .running import Table, Watch, ask_program, judge, read_trace, started, trace_of, watch_of
-from .settings import literal_of_stop, nearest, paths_of, set_in_instance, set_in_unit, value_of_literal
+from .running import Table, Watch, ask_program, judge, read_trace, started, trace_of, watch_of, watch_trace
+from .settings import Template, literal_of_stop, nearest, paths_of, set_in_instance, set_in_unit, template_of, value_of_literal
 from .sources import FileLine, Source
 from .statuses import Status
 from .streams import Path, read_at_most, read_file
@@ -97,6 +97,23 @@ def values_of(words: Iterable[int], variables: Iterable[Variable]) -> Dict[str, 
     return {variable.name: value_of_word(word, variable.type) for word, variable in zip(words, variables)}
 
 
+# The words of a run without an option.
+PLAIN_RUN = ("run", "--workers", "0")
+
+
+class Prepared(NamedTuple):
+    """A model that is to run with many literals of some parameters: its canonical text with places for them, where that comes from,
+    and the table that its runs write. It is small, so that it goes from process to process."""
+
+    template: Template
+    source: Source
+    table: Table
+
+    def run(self, literals: Sequence[str]) -> Trace:
+        """The trace with these literals, one for each parameter, which have to be those of its type. Refused as by `Model.run`."""
+        return read_trace(PLAIN_RUN, self.template.text_of(literals), self.source, self.table)
+
+
 class Model:
     """A model. No method changes it: those that set something return another model.
 
@@ -146,7 +163,12 @@ class Model:
     @property
     def source_of_runnable(self) -> Source:
         """Where the text that is run comes from: lines of a canonical text aren't those of a file."""
-        return self.source if self.runnable is self.text else Source(f"canonical text of {self.name}")
+        return self.source if self.runnable is self.text else self.source_of_canonical
+
+    @property
+    def source_of_canonical(self) -> Source:
+        """What messages call the canonical text."""
+        return Source(f"canonical text of {self.name}")
 
     def origin(self, line: int) -> FileLine:
         """The file and the line there that a line of `text` comes from, as the program counts lines. UnknownName where there is
@@ -235,6 +257,13 @@ class Model:
             set_in_instance(lines, component, variable.name, literal_of(value, variable.type, name))
         return self.edited(lines)
 
+    def prepared(self, names: Sequence[str]) -> Prepared:
+        """This model with places for other literals of these parameters, whose names are as of `set`. UnknownName where there is no
+        such parameter."""
+        found = [self.find_parameter(name) for name in names]
+        places = [(component, variable.name) for component, variable in found]
+        return Prepared(template_of(self.canonical, places), self.source_of_canonical, self.table())
+
     def set_unit(self, unit: str, parameter: str, value: Given) -> "Model":
         """This model with another value of a unit's parameter, which all its instances have that don't set it."""
         if unit not in self.system.units:
@@ -274,7 +303,7 @@ class Model:
         return Model(ask_program(["upgrade"], self.runnable, self.source_of_runnable), self.name)
 
     def table(self, has_header: bool = True) -> Table:
-        return Table(self.system, has_header)
+        return Table(self.system.columns, self.system.resolution, self.stop, has_header)
 
     def run(
         self,
@@ -297,7 +326,9 @@ class Model:
         words = run_words(workers, window, guess)
         limit = None if until is None else seconds_of(until, "until")
         with watch_of(progress, self.stop) as watch:
-            return read_trace(words, self.runnable, self.source_of_runnable, self.table(), limit, watch)
+            if limit is None and watch is None:
+                return read_trace(words, self.runnable, self.source_of_runnable, self.table())
+            return watch_trace(words, self.runnable, self.source_of_runnable, self.table(), limit, watch)
 
     def rows(self, workers: int = 0, window: Optional[int] = None, guess: Optional[str] = None) -> Iterator[Row]:
         """The rows of the trace as they come. The run is stopped where they are read no further.
@@ -371,7 +402,7 @@ class Model:
         """
         words = ["nodes", "--seed", str(seed), "--rounds", str(rounds)]
         trace = read_trace(words, self.runnable, self.source_of_runnable, self.table())
-        if trace.outcome.completed and (not trace.records or trace.time[-1] != self.stop):
+        if trace.outcome.completed and (not len(trace) or trace.time[-1] != self.stop):
             trace.outcome = Outcome(STOPPED, Status.ACCEPTED)
         return trace
 

@@ -93,13 +93,17 @@ class StepRefused(RunEnded):
 EXCEPTIONS = {ROW_BUDGET: RowBudgetSpent, ZERO_BUDGET: ZeroBudgetSpent, FAULT: Fault, STEP_REFUSED: StepRefused}
 
 
+# The outcome of each run that comes to its stop.
+AT_STOP = Outcome(COMPLETED, Status.ACCEPTED)
+
+
 def outcome_of(called: Called) -> Optional[Outcome]:
     """The outcome that the status and the first note of a call say, if it is that of a run."""
-    note = called.note.split("\n")[0]
     if called.status == Status.ACCEPTED:
-        return Outcome(COMPLETED, Status.ACCEPTED)
+        return AT_STOP
     if called.status not in ENDS:
         return None
+    note = called.note.split("\n")[0]
     kind, form = ENDS[called.status]
     found = form.fullmatch(note)
     if not found:
@@ -112,6 +116,8 @@ def outcome_of(called: Called) -> Optional[Outcome]:
 
 def counts_of(called: Called) -> Dict[str, int]:
     """The counts of the last note, as of `replay`; of `nodes` the rows of each node."""
+    if not called.notes:
+        return {}
     note = called.note.split("\n")[-1]
     nodes = NODES.fullmatch(note)
     if nodes:

@@ -3,29 +3,35 @@ import errno
 import functools
 import os
 import re
+import select
 import shutil
 import signal
 import subprocess
 import tempfile
-from typing import BinaryIO, Iterable, Iterator, List, NamedTuple, Optional, Sequence
+from typing import BinaryIO, Iterable, Iterator, NamedTuple, Optional, Sequence
 
 from .repository import REPOSITORY
 from .statuses import Status
-from .streams import note
+from .streams import note, write_all
 
 REFUSAL = re.compile(rb"cosim: line (\d+): rule (\d+)\n")
 
-# How the whole output of a command begins that ends with status 0.
+# How the whole output of a command begins that ends with status 0. Others may begin by anything.
 OUTPUTS = {
-    **dict.fromkeys(("print", "flatten", "upgrade", "stimulus"), rb"cosim "),
-    "check": rb"accepted\n",
-    "save": rb"saved ",
-    "verify": rb"yes|no",
-    "resume": rb"\d",
+    **dict.fromkeys(("print", "flatten", "upgrade", "stimulus"), re.compile(rb"cosim ")),
+    "check": re.compile(rb"accepted\n"),
+    "save": re.compile(rb"saved "),
+    "verify": re.compile(rb"yes|no"),
+    "resume": re.compile(rb"\d"),
 }
 
 # How many bytes of an output are read at once.
 PIECE = 1 << 16
+
+# How long the program may write before its output is read, in milliseconds, where nobody waits for single rows; and where it writes
+# so fast that it would fill the pipe, and wait.
+PAUSE = 5
+SHORT_PAUSE = 1
 
 
 def program() -> str:
@@ -75,23 +81,49 @@ class Called(NamedTuple):
         return self.notes.decode(errors="backslashreplace").rstrip("\n")
 
 
+def nameless_file(content: bytes = b"") -> BinaryIO:
+    """A new file without a name, open at its begin, that has a content. It is in memory where the system has such files, since one
+    on a disk takes longer. OSError where there can be none."""
+    try:
+        file: BinaryIO = open(os.memfd_create("cosim"), "w+b", buffering=0)
+    except (AttributeError, OSError):
+        file = tempfile.TemporaryFile()  # type: ignore[assignment]
+    if content:
+        try:
+            write_all(file.fileno(), content)
+            file.seek(0)
+        except BaseException:
+            file.close()
+            raise
+    return file
+
+
 class Call:
     """A call of the program whose output is read as it comes. OSError where the program can't be started."""
 
     def __init__(self, words: Sequence[str], text: bytes) -> None:
-        self.notes: BinaryIO = tempfile.TemporaryFile()  # type: ignore[assignment]
-        with tempfile.TemporaryFile() as given:
-            given.write(text)
-            given.seek(0)
+        self.notes = nameless_file()
+        with nameless_file(text) as given:
             call = [started_by(program()), *words]
             self.process = subprocess.Popen(call, stdin=given, stdout=subprocess.PIPE, stderr=self.notes)
 
-    def pieces(self) -> Iterator[bytes]:
-        """The output in pieces that end by a line feed, but for the last one where the output is cut off."""
+    def pieces(self, pause: int = 0) -> Iterator[bytes]:
+        """The output in pieces that end by a line feed, but for the last one where the output is cut off.
+
+        The program writes each row by itself. So a reader with a pause, in milliseconds, lets it write on before a read: until the
+        output ends, or else for that time. Pauses are short once the output comes so fast that it would fill the pipe in a long one.
+        """
         assert self.process.stdout
+        output = self.process.stdout.fileno()
+        end = select.poll()
+        end.register(output, 0)  # The end of the output alone, and no row.
         left = b""
         while True:
-            piece = os.read(self.process.stdout.fileno(), PIECE)
+            if pause:
+                end.poll(pause)
+            piece = os.read(output, PIECE)
+            if len(piece) > PIECE // 2:
+                pause = min(pause, SHORT_PAUSE)
             if not piece:
                 break
             lines, feed, rest = piece.rpartition(b"\n")
@@ -123,18 +155,17 @@ def call(words: Sequence[str], text: bytes) -> Called:
     """Calls the program with these words and a text as its input. OSError where it can't be started."""
     begun = Call(words, text)
     try:
-        pieces: List[bytes] = list(begun.pieces())
+        return begun.finish(b"".join(begun.pieces(PAUSE)))
     except BaseException:
         begun.stop()
         begun.finish()
         raise
-    return begun.finish(b"".join(pieces))
 
 
 def is_foreign(command: str, called: Called) -> bool:
     """Whether the program that gave an answer isn't cosim. It is asked about an empty text where the answer isn't one of cosim."""
     if called.status == Status.ACCEPTED:
-        is_usual = bool(re.match(OUTPUTS.get(command, b""), called.output))
+        is_usual = command not in OUTPUTS or bool(OUTPUTS[command].match(called.output))
     else:
         is_usual = called.notes.startswith(b"cosim: ") or called.status == Status.NO_PROGRAM or called.status > 128
     if is_usual:

@@ -4,7 +4,7 @@ from contextlib import contextmanager
 from fractions import Fraction
 from typing import Callable, Iterator, List, NamedTuple, Optional, Sequence, Union
 
-from .canonical import System
+from .canonical import Port
 from .errors import NoProgram, UnfitValue, failed, refused
 from .outcomes import STOPPED, Outcome, counts_of, outcome_of
 from .program import Call, Called, call, is_foreign, program, read_refusal
@@ -20,18 +20,17 @@ Watch = Callable[[Fraction, Fraction], Optional[bool]]
 
 
 class Table(NamedTuple):
-    """What is to be known of the rows that a call writes: the system, and whether a header comes first."""
+    """What is to be known of the rows that a call writes: the ports of its columns, the decimals of its times, the stop in seconds,
+    and whether a header comes first."""
 
-    system: System
+    ports: Sequence[Port]
+    resolution: int
+    stop: Fraction
     has_header: bool
 
-    @property
-    def stop(self) -> Fraction:
-        return Fraction(self.system.numbers["stop"])
-
     def time_of(self, line: bytes) -> Fraction:
-        resolution = self.system.resolution
-        return Fraction(ticks_of(line.split(b",", 1)[0].decode(), resolution), 10**resolution)
+        """The time of a row in seconds."""
+        return Fraction(ticks_of(line.split(b",", 1)[0].decode(), self.resolution), 10**self.resolution)
 
 
 def shown(words: Sequence[str]) -> str:
@@ -79,8 +78,7 @@ def trace_of(called: Called, table: Table, outcome: Optional[Outcome] = None) ->
     """The trace that a call wrote."""
     ended = outcome or outcome_of(called)
     assert ended
-    system = table.system
-    return Trace(called.output, system.columns, system.resolution, ended, table.has_header, counts_of(called))
+    return Trace(called.output, table.ports, table.resolution, ended, table.has_header, counts_of(called))
 
 
 @contextmanager
@@ -98,10 +96,21 @@ def started(words: Sequence[str], text: bytes) -> Iterator[Call]:
             begun.finish()
 
 
-def read_trace(
-    words: Sequence[str], text: bytes, source: Source, table: Table, until: Optional[Fraction] = None, watch: Optional[Watch] = None
+def read_trace(words: Sequence[str], text: bytes, source: Source, table: Table) -> Trace:
+    """The rows of a call. A last line that was cut off is none."""
+    try:
+        called = call(words, text)
+    except OSError as error:
+        raise start_failed(error) from None
+    if not called.output.endswith(b"\n"):
+        called = called._replace(output=called.output[: called.output.rfind(b"\n") + 1])
+    return trace_of(judge(called, words, text, source), table)
+
+
+def watch_trace(
+    words: Sequence[str], text: bytes, source: Source, table: Table, until: Optional[Fraction], watch: Optional[Watch]
 ) -> Trace:
-    """The rows of a call, which are read as they come."""
+    """The rows of a call, which are read as they come: up to a time, and while a watch lets the run go on."""
     with started(words, text) as begun:
         pieces: List[bytes] = []
         is_stopped = False

@@ -1,6 +1,7 @@
 """What is set in a canonical text, and what the names of settings mean."""
 import difflib
-from typing import Iterable, Iterator, List, Tuple
+import re
+from typing import Iterable, Iterator, List, NamedTuple, Sequence, Tuple
 
 from .errors import UnfitValue
 from .nests import Nest, Part
@@ -30,6 +31,30 @@ def set_in_instance(lines: List[bytes], instance: str, parameter: str, literal: 
     while lines[place] != b"end" and not lines[place].startswith(setting):
         place += 1
     lines[place : place + (lines[place] != b"end")] = [setting + literal.encode()]
+
+
+class Template(NamedTuple):
+    """A canonical text with places for literals: its parts, and for each literal the number of the part that it takes."""
+
+    parts: List[bytes]
+    places: List[int]
+
+    def text_of(self, literals: Sequence[str]) -> bytes:
+        """The text with these literals, one for each place."""
+        parts = self.parts.copy()
+        for place, literal in zip(self.places, literals):
+            parts[place] = literal.encode()
+        return b"".join(parts)
+
+
+def template_of(canonical: bytes, parameters: Sequence[Tuple[str, str]]) -> Template:
+    """A canonical text with places for the literals of these parameters, each an instance and a name."""
+    lines = canonical.splitlines()
+    for number, (instance, parameter) in enumerate(parameters):
+        set_in_instance(lines, instance, parameter, f"\0{number}\0")  # No text has this sign.
+    parts = re.split(rb"\0(\d+)\0", b"\n".join(lines) + b"\n")
+    places = {int(number): 2 * count + 1 for count, number in enumerate(parts[1::2])}
+    return Template(parts, [places[number] for number in range(len(parameters))])
 
 
 def set_in_unit(lines: List[bytes], unit: str, parameter: str, type_name: str, literal: str) -> None:

@@ -16,9 +16,8 @@ from decimal import Decimal
 from fractions import Fraction
 from typing import Any, BinaryIO, Callable, Dict, Generator, Iterator, List, Mapping, NamedTuple, Optional, Sequence, Tuple, Union
 
-from .canonical import Variable
 from .errors import CosimError, UnfitValue
-from .models import Model
+from .models import Model, Prepared
 from .progress import bar
 from .settings import value_of_literal
 from .streams import Path, clean_name, read_at_most
@@ -146,15 +145,18 @@ def sweep(
 
     UnknownName and UnfitValue where there is no such parameter, or a value is none of its type, before anything runs.
     """
-    found = {name: model.find_parameter(name)[1] for name in parameters}
-    cases = cases_of(found, parameters)
-    with Kept(keep, header_of(model, list(parameters), measure)) as kept, reporter(progress, len(cases)) as report:
+    names = tuple(parameters)
+    types = {name: model.find_parameter(name)[1].type for name in names}
+    literals = literals_of(types, parameters)
+    values = [{literal: value_of_literal(literal, types[name], name) for literal in literals[name]} for name in names]
+    cases = list(itertools.product(*literals.values()))
+    with Kept(keep, header_of(model, list(names), measure)) as kept, reporter(progress, len(cases)) as report:
         left = [case for case in dict.fromkeys(cases) if case not in kept.runs]
         report(len(cases) - len(left))
-        for count, done in enumerate(run_cases(model, tuple(parameters), left, measure, executor), 1):
+        for count, done in enumerate(run_cases(model.prepared(names), names, left, measure, executor), 1):
             kept.add(done)
             report(len(cases) - len(left) + count)
-        return Sweep([row_of(kept.runs[case], case, found) for case in cases])
+        return Sweep([row_of(kept.runs[case], case, names, values) for case in cases])
 
 
 @contextmanager
@@ -170,13 +172,12 @@ def reporter(progress: Union[bool, Callable[[int, int], object]], total: int) ->
         yield lambda done: None
 
 
-def cases_of(variables: Mapping[str, Variable], parameters: Mapping[str, Sequence[Given]]) -> List[Case]:
-    """All combinations; the last parameter changes fastest. UnfitValue where a value is none, or is no list of values."""
+def literals_of(types: Mapping[str, str], parameters: Mapping[str, Sequence[Given]]) -> Dict[str, List[str]]:
+    """The literals of each parameter's values. UnfitValue where a value is none of its type, or there is no list of values."""
     for name, values in parameters.items():
         if isinstance(values, (str, bytes, bytearray)) or not hasattr(values, "__iter__"):
             raise UnfitValue(f"{name}: {values!r} is one value; write a list")
-    literals = [[literal_of(value, variables[name].type, name) for value in values] for name, values in parameters.items()]
-    return list(itertools.product(*literals))
+    return {name: [literal_of(value, types[name], name) for value in values] for name, values in parameters.items()}
 
 
 def header_of(model: Model, names: List[str], measure: Optional[Measure]) -> Dict[str, Any]:
@@ -200,15 +201,15 @@ def word_of(value: Any) -> str:
     return repr(value) if value is None or isinstance(value, (bool, int, float, str, bytes, Decimal, Fraction)) else str(name_of(value))
 
 
-def row_of(done: Mapping[str, Any], case: Case, variables: Mapping[str, Variable]) -> SweepRow:
-    names = list(variables)
-    values = {name: value_of_literal(literal, variables[name].type, name) for name, literal in zip(names, case)}
+def row_of(done: Mapping[str, Any], case: Case, names: Sequence[str], values: Sequence[Mapping[str, Value]]) -> SweepRow:
+    """The row of a run that is done. `values` has the value of each literal, for each parameter."""
+    parameters = {name: of_literals[literal] for name, of_literals, literal in zip(names, values, case)}
     measures = {name: decoded(value) for name, value in done["measures"].items()}
-    return SweepRow(values, done["outcome"], done["note"], measures)
+    return SweepRow(parameters, done["outcome"], done["note"], measures)
 
 
 def run_cases(
-    model: Model, names: Tuple[str, ...], cases: Sequence[Case], measure: Optional[Measure], executor: Any
+    model: Prepared, names: Tuple[str, ...], cases: Sequence[Case], measure: Optional[Measure], executor: Any
 ) -> Iterator[Done]:
     """Runs cases by an executor, and yields each run as it is done."""
     if not cases:
@@ -325,16 +326,16 @@ def result_of(future: Any) -> Optional[List[Done]]:
     return done if isinstance(done, list) else None
 
 
-def run_task(model: Model, names: Tuple[str, ...], measure: Optional[Measure], cases: Sequence[Case]) -> List[Done]:
+def run_task(model: Prepared, names: Tuple[str, ...], measure: Optional[Measure], cases: Sequence[Case]) -> List[Done]:
     """Runs some cases, one after the other."""
     return [run_case(model, names, case, measure) for case in cases]
 
 
-def run_case(model: Model, names: Tuple[str, ...], case: Case, measure: Optional[Measure]) -> Done:
+def run_case(model: Prepared, names: Tuple[str, ...], case: Case, measure: Optional[Measure]) -> Done:
     """Runs a case, and measures its trace."""
     done: Done = {"literals": case, "measures": {}}
     try:
-        trace = model.set_all(dict(zip(names, case))).run()
+        trace = model.run(case)
     except CosimError as error:
         return {**done, "outcome": REFUSED if hasattr(error, "rule") else PROGRAM_FAILED, "note": error.note or str(error)}
     done["outcome"], done["note"] = trace.outcome.kind, trace.outcome.note

@@ -1,4 +1,5 @@
 """Traces: their points, their values, and what differs between two."""
+import functools
 from dataclasses import dataclass
 from fractions import Fraction
 from typing import TYPE_CHECKING, Any, Dict, Iterable, Iterator, List, Mapping, Optional, Sequence, Tuple, Union
@@ -18,6 +19,9 @@ INDEX = "index"
 # The byte-order mark, which some editors write at the begin of a file.
 MARK = "\ufeff"
 
+# How many columns are read by themselves. After that the fields of all columns are made, which takes less time for many.
+LONE_COLUMNS = 3
+
 Point = Tuple[int, int]
 
 
@@ -28,6 +32,12 @@ class Column:
     name: str
     type: str
     is_event: bool
+
+
+@functools.lru_cache(maxsize=1024)
+def column_of(port: Port) -> Column:
+    """The column of an output. Many traces have the same ones."""
+    return Column(str(port), port.type, port.is_event)
 
 
 @dataclass(frozen=True)
@@ -61,6 +71,8 @@ class Trace:
     `decimal.Decimal` with exactly N decimals of `Fixed N`; None where an event is absent. All are exact.
 
     `counts` has the counts of `replay`, and of `nodes` the rows of each node.
+
+    Values are read from the rows when they are first asked for, and those of other columns aren't.
     """
 
     def __init__(
@@ -73,11 +85,12 @@ class Trace:
         counts: Optional[Mapping[str, int]] = None,
     ) -> None:
         self.table = table
-        self.columns = [Column(str(port), port.type, port.is_event) for port in ports]
+        self.columns = [column_of(port) for port in ports]
         self.resolution = resolution
         self.outcome = outcome
         self.has_header = has_header
         self.counts = dict(counts or {})
+        self._lines: Optional[List[str]] = None
         self._records: Optional[List[List[str]]] = None
         self._values: Dict[str, List[Optional[Value]]] = {}
 
@@ -104,13 +117,26 @@ class Trace:
         """A trace that has columns alone. What is asked of their names is judged as of any other trace."""
         return cls(header_of(ports).encode(), ports, resolution, Outcome(UNKNOWN))
 
+    def lines(self) -> List[str]:
+        """The line of each row, as the program wrote it. Lines are kept until their fields are."""
+        lines = self._lines  # Another thread may make fields of them meanwhile.
+        if lines is None:
+            lines = self._lines = self.table.decode("ascii", "replace").splitlines()[self.has_header :]
+        return lines
+
     @property
     def records(self) -> List[List[str]]:
         """The fields of each row, as the program wrote them."""
         if self._records is None:
-            lines = self.table.decode("ascii", "replace").splitlines()
-            self._records = [line.split(",") for line in lines[self.has_header :]]
+            self._records = [line.split(",") for line in self.lines()]
+            self._lines = None
         return self._records
+
+    def fields_of(self, place: int) -> List[str]:
+        """The field of each row at a place, from 0 for the time."""
+        if self._records is None and len(self._values) < LONE_COLUMNS:
+            return [line.split(",", place + 1)[place] for line in self.lines()]
+        return [record[place] for record in self.records]
 
     @property
     def names(self) -> List[str]:
@@ -120,7 +146,7 @@ class Trace:
     @property
     def ticks(self) -> List[int]:
         """The time of each row in 10^-resolution seconds."""
-        return [ticks_of(record[0], self.resolution) for record in self.records]
+        return [ticks_of(field, self.resolution) for field in self.fields_of(0)]
 
     @property
     def time(self) -> List[Fraction]:
@@ -131,7 +157,7 @@ class Trace:
     @property
     def index(self) -> List[int]:
         """The index of each row, which tells the points of one time apart."""
-        return [int(record[1]) for record in self.records]
+        return [int(field) for field in self.fields_of(1)]
 
     @property
     def points(self) -> List[Point]:
@@ -139,7 +165,7 @@ class Trace:
         return list(zip(self.ticks, self.index))
 
     def __len__(self) -> int:
-        return len(self.records)
+        return len(self.lines()) if self._records is None else len(self._records)
 
     def column(self, name: str) -> Column:
         """The column of a name. UnknownName where there is none."""
@@ -147,16 +173,16 @@ class Trace:
 
     def place_of(self, name: str) -> int:
         """The place of a column, from 0 after `time` and `index`. UnknownName where there is none."""
-        if name not in self.names:
-            raise UnknownName(f"there is no column {name}; there are {', '.join(self.names)}")
-        return self.names.index(name)
+        names = self.names
+        if name not in names:
+            raise UnknownName(f"there is no column {name}; there are {', '.join(names)}")
+        return names.index(name)
 
     def __getitem__(self, name: str) -> List[Optional[Value]]:
         """The values of a column, one for each row. UnknownName where there is no such column."""
         place = self.place_of(name)
         if name not in self._values:
-            fields = [record[place + 2] for record in self.records]
-            self._values[name] = values_of_fields(fields, self.columns[place].type)
+            self._values[name] = values_of_fields(self.fields_of(place + 2), self.columns[place].type)
         return self._values[name]
 
     def __iter__(self) -> Iterator[Row]:

@@ -59,6 +59,11 @@ def kills_once(path: str, trace: cosim.Trace) -> Value:
     return last(trace)
 
 
+def table(trace: cosim.Trace) -> str:
+    """All bytes of a trace."""
+    return trace.to_csv().decode()
+
+
 def named(name: str, trace: cosim.Trace) -> Dict[str, Union[bool, int, Decimal, Fraction, str, None]]:
     """A measure of a name."""
     return {name: len(trace)}

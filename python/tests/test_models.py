@@ -1,38 +1,22 @@
 """Models: parts, settings, refusals and runs."""
+import os
 import pathlib
 import pickle
+import resource
+import select
 import shutil
+import signal
+import subprocess
+import sys
 from decimal import Decimal
 from fractions import Fraction
-from typing import Any, Callable, List, Tuple
+from typing import Any, Callable, List, Optional, Tuple
 
 import pytest
 
 import cosim
 from cosim import program
-from texts import COOLER, DIVIDES, HALVES
-
-NESTED = """group Pair
-  instance left : Counter
-  end
-  instance right : Counter
-  end
-  out y = left.y
-main
-cosim 1
-unit Counter
-  param by : Int8 = 1
-  state n : Int64 = 0
-  output y : Int64 = n
-  step
-    n := n + by
-  end
-end
-instance pair : Pair
-end
-stop 2
-longest 1
-"""
+from texts import COOLER, DIVIDES, HALVES, NESTED
 
 
 def test_run_has_the_bytes_of_the_program(examples: pathlib.Path) -> None:
@@ -327,6 +311,100 @@ def test_a_program_that_is_ended_within_a_row(counter: cosim.Model, monkeypatch:
     for ask in calls:
         with pytest.raises(cosim.ProgramFailed, match="signal 9 ended the program"):
             ask()
+
+
+def program_of(commands: str, folder: pathlib.Path, monkeypatch: pytest.MonkeyPatch) -> None:
+    """Lets these commands of a shell be the program."""
+    script = folder / "program"
+    script.write_text(f"#!/bin/sh\n{commands}\n")
+    script.chmod(0o755)
+    monkeypatch.setenv("COSIM", str(script))
+
+
+def test_a_wait_that_is_broken_off_ends_the_program(monkeypatch: pytest.MonkeyPatch, tmp_path: pathlib.Path) -> None:
+    """A program that writes no more and doesn't end."""
+    program_of("exec sleep 600 >&-", tmp_path, monkeypatch)
+    wait = subprocess.Popen.wait
+    waiting: List["subprocess.Popen[bytes]"] = []
+
+    def break_off(process: "subprocess.Popen[bytes]", timeout: Optional[float] = None) -> int:
+        waiting.append(process)
+        if len(waiting) == 1:
+            raise KeyboardInterrupt
+        return wait(process, timeout)
+
+    monkeypatch.setattr(subprocess.Popen, "wait", break_off)
+    with pytest.raises(KeyboardInterrupt):
+        program.call(["run"], b"")
+    assert [process.returncode for process in waiting] == [-signal.SIGTERM] * 2
+
+
+def test_a_read_that_is_broken_off_ends_the_program(monkeypatch: pytest.MonkeyPatch, tmp_path: pathlib.Path) -> None:
+    program_of("exec sleep 600", tmp_path, monkeypatch)
+    reading: List[program.Call] = []
+
+    def break_off(begun: program.Call, _: int = 0) -> bytes:
+        reading.append(begun)
+        raise KeyboardInterrupt
+
+    monkeypatch.setattr(program.Call, "pieces", break_off)
+    with pytest.raises(KeyboardInterrupt):
+        program.call(["run"], b"")
+    assert [begun.process.returncode for begun in reading] == [-signal.SIGTERM]
+
+
+def test_a_program_ends_where_its_caller_is_killed(monkeypatch: pytest.MonkeyPatch, tmp_path: pathlib.Path) -> None:
+    """Nobody reads its output any more. The pipe `open` is open for writing as long as it runs."""
+    is_open = tmp_path / "open"
+    os.mkfifo(is_open)
+    program_of(f"exec 3> '{is_open}'; echo begun >&3; while echo 0,0; do sleep 0.1; done", tmp_path, monkeypatch)
+    number = os.open(is_open, os.O_RDONLY | os.O_NONBLOCK)
+    wait = select.poll()
+    wait.register(number, select.POLLIN)
+    with subprocess.Popen([sys.executable, "-c", "from cosim import program; program.call(['run'], b'')"]) as caller:
+        assert wait.poll(60_000) and os.read(number, 6) == b"begun\n"
+        caller.kill()
+    wait.modify(number, 0)
+    assert wait.poll(60_000) == [(number, select.POLLHUP)]
+    os.close(number)
+
+
+def test_an_output_ends_after_its_program(monkeypatch: pytest.MonkeyPatch, tmp_path: pathlib.Path) -> None:
+    """As of a script that writes by another process, such as one for a log, and doesn't wait for it."""
+    program_of("(sleep 0.5; echo 1,0,7) & echo 0,0,7", tmp_path, monkeypatch)
+    assert program.call(["run"], b"") == program.Called(0, b"0,0,7\n1,0,7\n", b"")
+
+
+def test_outputs_have_no_limit_of_files(counter: cosim.Model, monkeypatch: pytest.MonkeyPatch, tmp_path: pathlib.Path) -> None:
+    long = counter.set_stop(5000)
+    table = long.run().table
+    limit = 4096
+    assert len(table) > 2 * limit > 2 * len(long.canonical)
+    before = resource.getrlimit(resource.RLIMIT_FSIZE)
+    try:
+        resource.setrlimit(resource.RLIMIT_FSIZE, (limit, before[1]))
+        assert long.run().table == table
+    finally:
+        resource.setrlimit(resource.RLIMIT_FSIZE, before)
+    program_of(f"ulimit -f 4; exec '{program.program()}' \"$@\"", tmp_path, monkeypatch)
+    assert long.run().table == table
+
+
+def test_a_system_without_files_in_memory(heater: cosim.Model, monkeypatch: pytest.MonkeyPatch) -> None:
+    table, until = heater.run().table, heater.run(until=600).table
+
+    def refuse(name: str) -> int:
+        raise PermissionError(f"no {name}")
+
+    changes: List[Callable[[], object]] = [
+        lambda: monkeypatch.setattr(os, "memfd_create", refuse),
+        lambda: monkeypatch.delattr(os, "memfd_create"),
+    ]
+    for change in changes:
+        change()
+        assert (heater.run().table, heater.run(until=600).table) == (table, until)
+        with pytest.raises(cosim.Refused, match="rule 4"):
+            cosim.Model.from_text("cosim 1\nno form\n").run()
 
 
 def test_numbers_of_numpy() -> None:

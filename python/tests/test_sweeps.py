@@ -1,6 +1,7 @@
 """Sweeps, by executors of one machine and by a cluster. After three steps of `rate` the cooler is at 1.00 - 3 * rate."""
 import concurrent.futures
 import functools
+import itertools
 import json
 import os
 import pathlib
@@ -9,13 +10,13 @@ import sys
 from concurrent.futures.process import BrokenProcessPool
 from decimal import Decimal
 from fractions import Fraction
-from typing import Any, Dict, List, Set
+from typing import Any, Callable, Dict, List, Set
 
 import pytest
 
 import cosim
 import measures
-from texts import COOLER, DIVIDES
+from texts import COOLER, DIVIDES, NESTED
 
 RATES = [f"0.{hundredths:02d}" for hundredths in range(60)]
 LAST = [Decimal("1.00") - 3 * Decimal(rate) for rate in RATES]
@@ -92,6 +93,78 @@ def test_no_program(cooler: cosim.Model, monkeypatch: pytest.MonkeyPatch) -> Non
         sweep = cosim.sweep(cooler, {"cooler.rate": ["0.25"]}, executor=threads)
     assert sweep.rows[0].outcome == "program failed"
     assert "/nowhere/cosim" in sweep.rows[0].note
+
+
+@pytest.mark.parametrize("is_given", [True, False])
+def test_rows_are_those_of_single_runs(heater: cosim.Model, is_given: bool) -> None:
+    """A parameter that its component sets, one that it doesn't, and two of one component, in an order that no text has."""
+    values: Dict[str, List[Any]] = {
+        "thermostat.high": [Decimal("19.50"), 20],
+        "heater.watts": ["0", "12.00"],
+        "thermostat.low": [Fraction(37, 2), "17.5"],
+        "plate.cooling": ["-0.50", "0.5"],
+    }
+    with concurrent.futures.ThreadPoolExecutor(2) as threads:
+        sweep = cosim.sweep(heater, values, measures.table, threads if is_given else None)
+    cases = [dict(zip(values, case)) for case in itertools.product(*values.values())]
+    single = [heater.set_all(case) for case in cases]
+    assert [row.measures["measure"] for row in sweep] == [measures.table(model.run()) for model in single]
+    assert [row.parameters for row in sweep] == [{name: model.parameter(name) for name in values} for model in single]
+    assert len({row.measures["measure"] for row in sweep}) > 4
+    prepared = heater.prepared(list(values))
+    texts = [prepared.template.text_of([f"{model.parameter(name)}" for name in values]) for model in single]
+    assert texts == [model.canonical for model in single]
+
+
+def test_parameters_within_groups() -> None:
+    model = cosim.Model.from_text(NESTED)
+    values = {"pair.right.by": [-2, 7], "pair.left.by": [5, 1, -128]}
+    with concurrent.futures.ThreadPoolExecutor(2) as threads:
+        sweep = cosim.sweep(model, values, measures.table, threads)
+    single = [model.set_all(dict(zip(values, case))).run() for case in itertools.product(*values.values())]
+    assert [row.measures["measure"] for row in sweep] == [measures.table(trace) for trace in single]
+    assert sweep.rows[2].measures["measure"] == "time,index,pair_left.y,pair_right.y\n0,0,0,0\n1,0,-128,-2\n2,0,-256,-4\n"
+
+
+def test_no_parameters(cooler: cosim.Model) -> None:
+    with concurrent.futures.ThreadPoolExecutor(1) as threads:
+        sweep = cosim.sweep(cooler, {}, measures.last, threads)
+    assert [(row.parameters, row.measures) for row in sweep] == [({}, {"measure": Decimal("0.25")})]
+
+
+def test_a_refusal_is_that_of_a_single_run(cooler: cosim.Model) -> None:
+    """A text that is refused as it is run, which no literal of a type makes of a model."""
+    prepared = cooler.prepared(["cooler.rate"])
+    wrong = cooler.edited(cooler.canonical.replace(b"longest 10", b"longest x").splitlines())
+    template = prepared.template._replace(parts=[wrong.canonical], places=[])
+    messages = []
+    calls: List[Callable[[], object]] = [wrong.run, lambda: prepared._replace(template=template).run([])]
+    for call in calls:
+        with pytest.raises(cosim.Refused) as caught:
+            call()
+        messages.append((str(caught.value), caught.value.line, caught.value.rule, caught.value.note))
+    assert messages[0] == messages[1]
+    assert messages[0][0].startswith("canonical text of model")
+
+
+class NoExecutor(concurrent.futures.Executor):
+    """An executor that must get no task."""
+
+    def submit(self, *_: Any, **__: Any) -> Any:
+        raise AssertionError("a task was submitted")
+
+
+@pytest.mark.parametrize("wrong", [0.5, "0.125", "1e1", "", None, True, Decimal("NaN"), 10**17, "-92233720368547758.09", [0]])
+@pytest.mark.parametrize("place", [0, 30, 60])
+def test_one_unfit_value_among_many(cooler: cosim.Model, tmp_path: pathlib.Path, wrong: Any, place: int) -> None:
+    keep = tmp_path / "kept"
+    values: List[Any] = [*RATES[:place], wrong, *RATES[place:]]
+    with pytest.raises(cosim.UnfitValue) as of_set:
+        cooler.set("cooler.rate", wrong)
+    with pytest.raises(cosim.UnfitValue) as of_sweep:
+        cosim.sweep(cooler, {"cooler.rate": values}, executor=NoExecutor(), keep=keep)
+    assert str(of_sweep.value) == str(of_set.value)
+    assert not keep.exists()
 
 
 def test_unfit_parameters(cooler: cosim.Model) -> None:

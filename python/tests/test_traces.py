@@ -1,15 +1,18 @@
 """Traces: values, outcomes and differences."""
 import decimal
+import itertools
 import os
 import pathlib
 import pickle
 from decimal import Decimal
 from fractions import Fraction
-from typing import Any, List
+from typing import Any, List, Optional
 
 import pytest
 
 import cosim
+from cosim.traces import LONE_COLUMNS
+from cosim.values import literal_of_value
 from texts import COOLER, DIVIDES, EVENTS, HALVES, REFUSES, STUCK
 
 
@@ -41,6 +44,56 @@ def test_times_with_decimals() -> None:
     assert trace.resolution == 1
     assert trace.ticks == [0, 5, 10, 15]
     assert trace.time == [0, Fraction(1, 2), 1, Fraction(3, 2)]
+
+
+@pytest.mark.parametrize("text", [COOLER, EVENTS, HALVES, STUCK])
+def test_columns_that_are_read_by_themselves(text: str) -> None:
+    whole = run(text)
+    fields = list(zip(*whole.records))
+    columns = dict(zip(whole.names, fields[2:]))
+    for names in itertools.permutations([*whole.names, *whole.names[:1]]):
+        alone = run(text)
+        assert len(alone) == len(whole) == len(fields[0])
+        for name in names:
+            assert alone[name] == whole[name]
+            assert [type(value) for value in alone[name]] == [type(value) for value in whole[name]]
+            assert [literal_of_value(value) if value is not None else "" for value in alone[name]] == list(columns[name])
+        assert (alone.points, alone.time, len(alone)) == (whole.points, whole.time, len(whole))
+        assert alone.records == whole.records
+        assert list(alone) == list(whole)
+
+
+def test_more_columns_than_are_read_by_themselves(groups: cosim.Model) -> None:
+    whole, alone = groups.run(), groups.run()
+    assert len(alone.names) > 2 * LONE_COLUMNS
+    records = whole.records
+    for place, name in reversed(list(enumerate(whole.names, 2))):
+        assert alone[name] == whole[name]
+        assert alone.fields_of(place) == [record[place] for record in records]
+    assert len(alone) == len(whole) and alone.to_csv() == whole.to_csv()
+
+
+class Forgetful(cosim.Trace):
+    """A trace whose lines are gone after each look at them, as where another thread makes their fields."""
+
+    kept: Optional[List[str]] = None
+
+    @property
+    def _lines(self) -> Optional[List[str]]:
+        lines, self.kept = self.kept, None
+        return lines
+
+    @_lines.setter
+    def _lines(self, lines: Optional[List[str]]) -> None:
+        self.kept = lines
+
+
+def test_threads_that_share_a_trace() -> None:
+    model = cosim.Model.from_text(COOLER)
+    whole = model.run()
+    shared = Forgetful(whole.table, model.system.columns, whole.resolution, whole.outcome)
+    for _ in range(3):
+        assert (shared.lines(), len(shared), shared.ticks) == (whole.lines(), len(whole), whole.ticks)
 
 
 def test_points_of_one_time() -> None:

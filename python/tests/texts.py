@@ -94,3 +94,26 @@ end
 stop 1.5
 longest 0.5
 """
+
+# A group of two components, which count from 0 by one a second, of which the group shows one.
+NESTED = """group Pair
+  instance left : Counter
+  end
+  instance right : Counter
+  end
+  out y = left.y
+main
+cosim 1
+unit Counter
+  param by : Int8 = 1
+  state n : Int64 = 0
+  output y : Int64 = n
+  step
+    n := n + by
+  end
+end
+instance pair : Pair
+end
+stop 2
+longest 1
+"""
