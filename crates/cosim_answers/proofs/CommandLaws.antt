@@ -264,7 +264,7 @@ in_limit (Some limit) read text is within =
     subst (λ (bytes : List ℕ). length bytes ≤ limit) (sym is) (subst (λ n. n ≤ limit) read.ok.0 within)
 
 -- An input that is too long breaks the rule of its length.
-too_long : (limit : ℕ) (text : List ℕ) → Some text_limit ≡ Some limit → limit < length text → IsRefusedAt text 1 2
+pub too_long : (limit : ℕ) (text : List ℕ) → Some text_limit ≡ Some limit → limit < length text → IsRefusedAt text 1 2
 too_long limit text is long = inl (long_refused text (more (same_Some text_limit limit is) (length_le_size_of text) long))
   where
     more : text_limit ≡ limit → length text ≤ size_of text → limit < length text → text_limit < size_of text

@@ -7,6 +7,7 @@ pub mod NodesLaws
 pub mod OutputNames
 pub mod PipelineLaws
 pub mod PlainRests
+pub mod RefusedLines
 pub mod ReplayLaws
 pub mod ResumeLaws
 pub mod RunLaws

@@ -8,6 +8,7 @@ pub mod PutTexts
 pub mod ReadStates
 pub mod RowsBefore
 pub mod SavedLengths
+pub mod SavedLines
 pub mod SavedOnce
 pub mod SavedTraces
 pub mod WalkLaws

@@ -1,5 +1,5 @@
 -- Lines at the beginning of a text.
-use Rattle.std.proofs.Common.{◌≡◌, ℕ, ◌≤◌, List, [], ◌∷◌, ◌++◌, length, length-append, inl, inr, Option, Some, None}
+use Rattle.std.proofs.Common.{◌≡◌, ℕ, suc, ◌+◌, ◌<◌, ◌≤◌, List, [], ◌∷◌, ◌++◌, length, length-append, inl, inr, Option, Some, None}
 use Rattle.std.proofs.Common.{refl, sym, ap, subst, ◌∙◌, arith}
 use Rattle.std.specs.Prelude.{◌⊎◌, codes, decimal}
 use Rattle.std.proofs.lemmas.List.{append_cancel_left}
@@ -69,12 +69,25 @@ pub begins_more : (text line rest behind : List ℕ) (lines : List (List ℕ)) �
 begins_more text line rest behind [] begins first = (behind, subst (λ t. IsFirstLine t line behind) (sym begins) first, refl)
 begins_more text line rest behind (one ∷ lines) begins first = (begins.0, begins.1, begins_more begins.0 line rest behind lines begins.2 first)
 
-pub begins_long : (text rest : List ℕ) (lines : List (List ℕ)) → BeginsWithLines text lines rest → length rest ≤ length text
-begins_long text rest [] begins = omega (arith, ap length begins)
-begins_long text rest (line ∷ lines) begins =
-    let here = first_line_long text line begins.0 begins.1 in
-    let others = begins_long begins.0 rest lines begins.2 in
+-- A text is longer than the rest after its first line.
+first_line_shorter : (text line rest : List ℕ) → IsFirstLine text line rest → length rest < length text
+first_line_shorter [] line rest is = absurd (no_first_line line rest is)
+first_line_shorter (byte ∷ text) line rest is = by is.cut
+  where
+    by : (byte ∷ text ≡ is.whole ++ 10 ∷ rest) ⊎ ((byte ∷ text ≡ is.whole) × (rest ≡ [])) → length rest < suc (length text)
+    by (inl p) = omega (arith, ap length p, length-append is.whole (10 ∷ rest))
+    by (inr p) = omega (arith, ap length p.1)
+
+-- Each line has a byte at least.
+pub begins_within : (text rest : List ℕ) (lines : List (List ℕ)) → BeginsWithLines text lines rest → length rest + length lines ≤ length text
+begins_within text rest [] begins = omega (arith, ap length begins)
+begins_within text rest (line ∷ lines) begins =
+    let here = first_line_shorter text line begins.0 begins.1 in
+    let others = begins_within begins.0 rest lines begins.2 in
     omega (arith, here, others)
+
+pub begins_long : (text rest : List ℕ) (lines : List (List ℕ)) → BeginsWithLines text lines rest → length rest ≤ length text
+begins_long text rest lines begins = let all = begins_within text rest lines begins in omega (arith, all)
 
 -- ---- Lines of numbers
 

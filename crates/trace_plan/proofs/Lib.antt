@@ -1,5 +1,6 @@
 pub mod ColumnLaws
 pub mod ColumnsPut
+pub mod FewColumns
 pub mod FittingLaws
 pub mod PlacedOutputs
 pub mod PlainRuns

@@ -21,13 +21,43 @@ use Rattle.unit_tree.specs.WellFormed.{resolution_of}
 use Rattle.unit_tree.specs.declared.line_form.LineForm.{LineForm}
 use Rattle.unit_tree.specs.declared.line_form.LineForm.TheVariants as form
 use Rattle.unit_tree.specs.declared.system.Instance.{Instance}
+use Rattle.unit_tree.specs.declared.system.PortName.{PortName}
 use Rattle.unit_tree.specs.declared.system.System.{System}
 use Rattle.unit_tree.specs.declared.unit.Unit.{Unit}
-use Rattle.language_laws.proofs.NameLaws.{all_keep, Hold, instance_head, kept_parts}
+use Rattle.language_laws.proofs.NameLaws.{all_keep, Hold, Kept, hold_all, hold_behind, instance_head, kept_parts}
+use Rattle.model_rules.specs.Limits.{instance_limit, sample_limit}
+use Rattle.unit_tree.specs.Sites.{Headed, alone, headed_part}
 use Rattle.language_laws.proofs.PlainNames.{has_flat, unit_line, in_range}
 use Rattle.language_laws.proofs.SiteLaws.{line_at, sites_are}
 use Rattle.list_laws.proofs.Members.{Has, has_front, has_behind, each_has}
 use Rattle.list_laws.proofs.Truths.{not_false, lt_not_told}
+
+-- ---- The lines of samples
+
+abbrev sample_head : PortName → Headed
+sample_head port = alone (form.Sample port)
+
+sample_heads : (samples : List PortName) → flat_map headed_part (map parts.Samples samples) ≡ map sample_head samples
+sample_heads [] = refl
+sample_heads (port ∷ samples) = ap (λ rest. sample_head port ∷ rest) (sample_heads samples)
+
+-- A rule that the lines of a system keep is kept by those of its samples.
+samples_kept : (P : Site → Type 0) (system : System) → AllByRecursion P (sites_of system)
+    → (before : List LineForm) × Hold P TopScope before (map sample_head system.samples)
+samples_kept P system all =
+    let header : List LineForm = form.Header system.version ∷ [] in
+    let samples : List Part = map parts.Samples system.samples in
+    let others : List Part =
+    map (λ unit. parts.HasUnit unit.name (unit_parts unit)) system.units ++ map parts.HasInstance system.instances ++ map parts.Connects system.wires
+    ++ optional parts.Stop system.stop
+    ++ optional parts.Longest system.longest
+    ++ optional parts.Zero system.zero
+    ++ optional parts.Rows system.rows in
+    let hold = (hold_all P TopScope [] (alone (form.Header system.version) ∷ flat_map headed_part (canonical_parts system)) all).2 in
+    let sampled =
+    hold_behind P TopScope header (flat_map headed_part others) (flat_map headed_part samples)
+    (subst (Hold P TopScope header) (flat_map-append headed_part others samples) hold) in
+    (sampled.0, subst (Hold P TopScope sampled.0) (sample_heads system.samples) sampled.1)
 
 -- ---- A rule that depends only on the line
 
@@ -178,45 +208,57 @@ module _ (system : System) where
     abbrev Few : Site → Type 0
     Few site = exceeds system site.scope site.earlier site.line ≡ false
 
-    abbrev any_instance : LineForm
-    any_instance = form.Instance [] []
-
-    abbrev tally : List LineForm → ℕ
-    tally lines = count_by (are_alike any_instance) lines
-
     abbrev becomes : LineForm → List LineForm
     becomes line = plain_forms system TopScope line
 
-    tally_both : (one other : List LineForm) → tally (one ++ other) ≡ tally one + tally other
-    tally_both one other = sum_by-append (λ x. cond (are_alike any_instance x) 1 0) one other
+    -- How many lines of the plain form of some lines are of the kind of a line.
+    abbrev tally : LineForm → List LineForm → ℕ
+    tally any lines = count_by (are_alike any) (flat_map becomes lines)
 
-    -- The line of an instance counts as one.
-    next_tally : (earlier : List LineForm) (instance : Instance)
-        → tally (flat_map becomes (earlier ++ (form.Instance instance.name instance.unit ∷ []))) ≡ tally (flat_map becomes earlier) + 1
-    next_tally earlier instance =
-        ap tally (flat_map-append becomes earlier (form.Instance instance.name instance.unit ∷ []))
-        ∙ tally_both (flat_map becomes earlier) (form.Instance instance.name instance.unit ∷ [])
+    tally_both : (any : LineForm) (one other : List LineForm) → tally any (one ++ other) ≡ tally any one + tally any other
+    tally_both any one other =
+        ap (count_by (are_alike any)) (flat_map-append becomes one other)
+        ∙ sum_by-append (λ x. cond (are_alike any x) 1 0) (flat_map becomes one) (flat_map becomes other)
 
-    counted : (earlier : List LineForm) (instances : List Instance) → tally (flat_map becomes earlier) ≤ 64
-        → Hold Few TopScope earlier (map instance_head instances) → tally (flat_map becomes earlier) + length instances ≤ 64
-    counted earlier [] low hold = omega (arith, low)
-    counted earlier (instance ∷ instances) low hold =
-        let line : LineForm = form.Instance instance.name instance.unit in
-        let here : tally (flat_map becomes (earlier ++ (line ∷ []))) ≤ 64 =
-        lt_not_told 64 (tally (flat_map becomes (earlier ++ (line ∷ [])))) (or_parts _ _ hold.0).0 in
-        let rest = counted (earlier ++ (line ∷ [])) instances here hold.2 in
-        omega (arith, rest, next_tally earlier instance)
+    -- There are no more lines of a kind than the rule allows, where each counts as one.
+    module _ {A : Type 0} (limit : ℕ) (any : LineForm) (head : A → Headed)
+        (allowed : (earlier : List LineForm) (x : A) → exceeds system TopScope earlier (head x).head ≡ false → tally any (earlier ++ ((head x).head ∷ [])) ≤ limit)
+        (next : (earlier : List LineForm) (x : A) → tally any (earlier ++ ((head x).head ∷ [])) ≡ tally any earlier + 1) where
+      counted : (earlier : List LineForm) (xs : List A) → tally any earlier ≤ limit → Hold Few TopScope earlier (map head xs)
+          → tally any earlier + length xs ≤ limit
+      counted earlier [] low hold = omega (arith, low)
+      counted earlier (x ∷ xs) low hold =
+          let rest = counted (earlier ++ ((head x).head ∷ [])) xs (allowed earlier x hold.0) hold.2 in
+          omega (arith, rest, next earlier x)
 
-    few_from : (earlier : List LineForm) (instances : List Instance) → Hold Few TopScope earlier (map instance_head instances) → length instances ≤ 64
-    few_from earlier [] hold = omega arith
-    few_from earlier (instance ∷ instances) hold =
-        let line : LineForm = form.Instance instance.name instance.unit in
-        let here : tally (flat_map becomes (earlier ++ (line ∷ []))) ≤ 64 =
-        lt_not_told 64 (tally (flat_map becomes (earlier ++ (line ∷ [])))) (or_parts _ _ hold.0).0 in
-        let rest = counted (earlier ++ (line ∷ [])) instances here hold.2 in
-        omega (arith, rest, next_tally earlier instance)
+      few_from : (earlier : List LineForm) (xs : List A) → Hold Few TopScope earlier (map head xs) → length xs ≤ limit
+      few_from earlier [] hold = omega arith
+      few_from earlier (x ∷ xs) hold =
+          let rest = counted (earlier ++ ((head x).head ∷ [])) xs (allowed earlier x hold.0) hold.2 in
+          omega (arith, rest, next earlier x)
 
-    pub few_instances : length system.instances ≤ 64
+    few_kept : Kept Few system
+    few_kept = kept_parts Few system (all_keep (λ site. exceeds system site.scope site.earlier site.line) 1 (sites_of system) kept.1.1.1.1.1.1.1.0)
+
+    abbrev any_instance : LineForm
+    any_instance = form.Instance [] []
+
+    pub few_instances : length system.instances ≤ instance_limit
     few_instances =
-        let parts_kept = kept_parts Few system (all_keep (λ site. exceeds system site.scope site.earlier site.line) 1 (sites_of system) kept.1.1.1.1.1.1.1.0) in
-        few_from parts_kept.before_instances system.instances parts_kept.instances
+        few_from instance_limit any_instance instance_head
+        (λ earlier instance fits.
+        lt_not_told instance_limit (tally any_instance (earlier ++ (form.Instance instance.name instance.unit ∷ []))) (or_parts _ _ fits).0)
+        (λ earlier instance. tally_both any_instance earlier (form.Instance instance.name instance.unit ∷ [])) few_kept.before_instances system.instances
+        few_kept.instances
+
+    few_sampled : (before : List LineForm) × Hold Few TopScope before (map sample_head system.samples)
+    few_sampled = samples_kept Few system (all_keep (λ site. exceeds system site.scope site.earlier site.line) 1 (sites_of system) kept.1.1.1.1.1.1.1.0)
+
+    abbrev any_sample : LineForm
+    any_sample = form.Sample (record { instance = []; port = [] })
+
+    pub few_samples : length system.samples ≤ sample_limit
+    few_samples =
+        few_from sample_limit any_sample sample_head
+        (λ earlier port fits. lt_not_told sample_limit (tally any_sample (earlier ++ (form.Sample port ∷ []))) (or_parts _ _ fits).0)
+        (λ earlier port. tally_both any_sample earlier (form.Sample port ∷ [])) few_sampled.0 system.samples few_sampled.1

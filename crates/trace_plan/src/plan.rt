@@ -1,4 +1,5 @@
 ghost use Rattle.std.specs.Prelude.{◌≡◌, ◌<◌, ◌≤◌, ◌^◌, length, IfOk, IfErr};
+ghost use Rattle.model_rules.specs.Limits.{sample_limit};
 ghost use Rattle.trace_csv.specs.Columns.{columns_of};
 ghost use Rattle.trace_plan.specs.Faults.{IsRightPlanFault};
 ghost use Rattle.trace_plan.specs.Laws.{HasTitles, HasRows};
@@ -146,10 +147,11 @@ impl Plan {
         (&fitted.low, &fitted.high)
     }
 
-    /// Returns the columns of the trace. Each is an output of the system. Where ports are right and all have words, it has a word
-    /// of its type. So the header and the rows can be printed.
+    /// Returns the columns of the trace, at most 2,048. Each is an output of the system. Where ports are right and all have words, it
+    /// has a word of its type. So the header and the rows can be printed.
     pub fn columns(&self) -> &[Column]
         ensures columns { result.now ≡ columns_of self.now.system }
+        ensures few { length result.now ≤ sample_limit }
         ensures titles { HasTitles self.now.system }
         ensures rows { HasRows self.now.system }
     {

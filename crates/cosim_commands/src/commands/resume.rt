@@ -1,5 +1,5 @@
 //! The command `resume`, in four steps: what the text saves, the plan of the system after it, a run from there, and how this ended.
-ghost use Rattle.std.specs.Prelude.{◌≡◌, ◌+◌, ◌≤◌, length, IfErr, IfOk, IfSome};
+ghost use Rattle.std.specs.Prelude.{◌≡◌, ◌+◌, ◌<◌, ◌≤◌, ◌^◌, length, IfErr, IfOk};
 ghost use Rattle.command_line.specs.Commands.{saved_limit};
 ghost use Rattle.command_line.specs.declared.commands.Command.TheVariants.{Resume};
 ghost use Rattle.cosim_answers.specs.Accepted.{planned};
@@ -40,28 +40,28 @@ fn saved_in(alloc: Global, text: &[u8]) -> Result<Saved, Stopped>
     }
 }
 
-/// Returns the number in the whole text of a line after those that save a position, or `None` where a refusal can't have this number.
-fn line_in_whole(saved: &Saved, line: u32) -> Option<u32>
-    ensures { IfSome result (λ number. number ≡ lines_before saved.now + line) }
+/// Returns the number in the whole text of a line after those that save a position.
+fn line_in_whole(saved: &Saved, line: u32) -> u32
+    requires { lines_before saved.now + line < 2 ^ 32 }
+    ensures { result ≡ lines_before saved.now + line }
 {
-    let states = u32::try_from(saved.names.len()).ok()?;
-    FIRST_LINES.checked_add(states)?.checked_add(line)
+    FIRST_LINES + saved.names.len() as u32 + line
 }
 
-/// Returns the plan of the system of the text after the saved position, or the refusal of that text. A line whose number is too great is
-/// reported as lack of memory.
+/// Returns the plan of the system of the text after the saved position, or the refusal of that text.
 fn plan_behind(alloc: Global, text: &[u8], saved: &Saved) -> Result<Arc<Plan>, Stopped>
-    requires { IsSaved text.now saved.now }
+    requires saved { IsSaved text.now saved.now }
+    requires within { length text.now ≤ saved_limit }
     ensures planned { IfOk result (λ plan. IsAccepted (text_behind text.now saved.now) plan.value.system) }
     ensures whole { IfOk result (λ plan. plan.value ≡ planned plan.value.system) }
     ensures refused { IfErr result (IsRefusedBehind text.now saved.now) }
 {
     match plan_of(alloc, &text[saved.rest as usize..]) {
         Ok(plan) => Ok(plan),
-        Err(Stopped::Refused { line, rule }) => match line_in_whole(saved, line) {
-            Some(line) => Err(Stopped::Refused { line, rule }),
-            None => Err(Stopped::NoMemory),
-        },
+        Err(Stopped::Refused { line, rule }) => Err(Stopped::Refused {
+            line: line_in_whole(saved, line),
+            rule,
+        }),
         Err(why) => Err(why),
     }
 }
