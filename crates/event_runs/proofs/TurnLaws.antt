@@ -14,7 +14,7 @@ use Rattle.event_runs.specs.Readings.{pace_of, offers_of}
 abbrev factors_of : List Member → List ℕ
 factors_of members = map (λ member. member.factor) members
 
-limits_are : (t : ℕ) (ports : Ports) (members : List Member) (states : List (List _))
+pub limits_are : (t : ℕ) (ports : Ports) (members : List Member) (states : List (List _))
     → filter_map (limit_at t ports) (zip members states) ≡ filter_map (limit_with t) (zip (factors_of members) (map (max_at t ports) (zip members states)))
 limits_are t ports [] states = refl
 limits_are t ports (member ∷ members) [] = refl
@@ -25,7 +25,7 @@ reply_is t h member None = refl
 reply_is t h member (Some (Ok moved)) = refl
 reply_is t h member (Some (Err fault)) = refl
 
-replies_are : (t h : ℕ) (members : List Member) (steps : Steps) → map (reply_at t h) (zip members steps) ≡ map (reply_with t h) (zip (factors_of members) steps)
+pub replies_are : (t h : ℕ) (members : List Member) (steps : Steps) → map (reply_at t h) (zip members steps) ≡ map (reply_with t h) (zip (factors_of members) steps)
 replies_are t h [] steps = refl
 replies_are t h (member ∷ members) [] = refl
 replies_are t h (member ∷ members) (step ∷ steps) =
@@ -74,10 +74,10 @@ module _ (run : Composition) (at : Position) (ports : Ports) where
   abbrev offers : Offers
   offers = offers_of run at ports
 
-  proposed_is : proposed run at ports ≡ proposal_at pace at offers
+  pub proposed_is : proposed run at ports ≡ proposal_at pace at offers
   proposed_is = ap (proposal_of run.stop run.longest at.point.t) (limits_are at.point.t ports run.members at.states)
 
-  agreed_is : agreed run at ports ≡ agreed_at pace at offers
+  pub agreed_is : agreed run at ports ≡ agreed_at pace at offers
   agreed_is =
       ap (λ h. agreed_step h (replies_to run at ports h)) proposed_is
       ∙ ap (agreed_step (proposal_at pace at offers))

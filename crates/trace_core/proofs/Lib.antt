@@ -1,4 +1,5 @@
 pub mod AcceptLaws
+pub mod AskingLaws
 pub mod ArrivalLaws
 pub mod CellLaws
 pub mod CourseLaws

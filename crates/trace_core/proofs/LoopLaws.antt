@@ -32,12 +32,12 @@ use Rattle.list_laws.proofs.Members.{at_place}
 use Rattle.list_laws.proofs.Pairs.{zip_at}
 use Rattle.list_laws.proofs.Options.{none_told}
 
--- ---- An end that is found item by item
+-- ---- What is found item by item
 
-module _ {A : Type 0} (tell : ℕ × A → Option Ending) (items : List A) where
-  -- No item before a place has an end: the first end is that of the items from there on.
+module _ {A B : Type 0} (tell : ℕ × A → Option B) (items : List A) where
+  -- No item before a place tells anything: the first that is told is that of the items from there on.
   abbrev pub ToldFrom : ℕ → Type 0
-  ToldFrom place = first_some (map tell (enumerate_from place (drop place items))) ≡ first_told tell items
+  ToldFrom place = first_some (map tell (enumerate_from place (drop place items))) ≡ first_some (map tell (enumerate_from 0 items))
 
   told_here : (place : ℕ) (item : A) → place < length items → item ≡ get_or items place item
       → first_some (map tell (enumerate_from place (drop place items)))
@@ -51,12 +51,12 @@ module _ {A : Type 0} (tell : ℕ × A → Option Ending) (items : List A) where
   told_none place item within is none so_far =
       sym (told_here place item within is ∙ ap (λ one. first_some (one ∷ map tell (enumerate_from (place + 1) (drop (place + 1) items)))) none) ∙ so_far
 
-  pub told_some : (place : ℕ) (item : A) (ending : Ending) → place < length items → item ≡ get_or items place item → tell (place, item) ≡ Some ending
-      → ToldFrom place → Some ending ≡ first_told tell items
-  told_some place item ending within is some so_far =
+  pub told_some : (place : ℕ) (item : A) (told : B) → place < length items → item ≡ get_or items place item → tell (place, item) ≡ Some told
+      → ToldFrom place → Some told ≡ first_some (map tell (enumerate_from 0 items))
+  told_some place item told within is some so_far =
       sym (told_here place item within is ∙ ap (λ one. first_some (one ∷ map tell (enumerate_from (place + 1) (drop (place + 1) items)))) some) ∙ so_far
 
-  pub told_all : (place : ℕ) → length items ≤ place → ToldFrom place → None ≡ first_told tell items
+  pub told_all : (place : ℕ) → length items ≤ place → ToldFrom place → None ≡ first_some (map tell (enumerate_from 0 items))
   told_all place past so_far = sym (ap (λ left. first_some (map tell (enumerate_from place left))) (drop_all place items past)) ∙ so_far
 
 -- ---- A list that is made element by element

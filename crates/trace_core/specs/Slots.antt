@@ -1,8 +1,10 @@
 -- Slots of steps: the slot of a step that was made, and of one that wasn't made yet.
 use Rattle.std.specs.Prelude.{ℕ, Bool, true, false, Result, Ok, Err}
 use Rattle.fixed_words.specs.declared.types.Fault.{Fault}
+use Rattle.trace_core.specs.Runs.{Cell}
+use Rattle.trace_core.specs.Runs as cell
 use Rattle.trace_core.specs.declared.seat.Slot.{Slot}
-use Rattle.trace_core.specs.declared.seat.Slot.TheVariants.{Empty, Took, Failed}
+use Rattle.trace_core.specs.declared.seat.Slot.TheVariants.{Held, Empty, Took, Failed}
 
 -- The slot of a step that accepted so many local ticks, or met a fault.
 abbrev pub slot_for : Result ℕ Fault → Slot
@@ -13,3 +15,10 @@ slot_for (Err fault) = Failed fault
 abbrev pub is_empty : Slot → Bool
 is_empty Empty = true
 is_empty _ = false
+
+-- The slot of a cell: the result of its step without the state after it.
+abbrev pub slot_seen : Cell → Slot
+slot_seen cell.Held = Held
+slot_seen cell.Empty = Empty
+slot_seen (cell.Filled (Ok moved)) = Took moved.accepted
+slot_seen (cell.Filled (Err fault)) = Failed fault

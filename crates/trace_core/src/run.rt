@@ -2,13 +2,14 @@
 ghost use Rattle.std.specs.Prelude.{◌≡◌, ◌<◌, ◌↔◌, length, slice_get, false, true, IsTrue, IsSome, Some, IfOk, IfSome, if◌then◌else◌};
 ghost use Rattle.std.specs.Option.{option_map};
 ghost use Rattle.trace_core.specs.Accepting.{IsAnswerTo};
-ghost use Rattle.trace_core.specs.Runs.{Stands, HoldMeanings, IsOpened, IsWanted, IsWantOf, IsKeyWanted, is_ended, IsComputed, with_found, row_told, AreCellsFull};
+ghost use Rattle.trace_core.specs.Runs.{Stands, is_filled, HoldMeanings, IsOpened, IsWanted, IsWantOf, IsKeyWanted, is_ended, IsComputed, with_found, row_told, AreCellsFull};
 ghost use Rattle.trace_core.specs.Arriving.{position_with};
 ghost use Rattle.trace_core.specs.Settling.{Settled};
+ghost use Rattle.trace_core.specs.Slots.{slot_seen};
 ghost use Rattle.trace_core.specs.declared.phase.Settle.TheVariants as settled;
 ghost use Rattle.unit_tree.specs.Compositions.{AreMembers, run_of};
-ghost use Rattle.unit_tree.specs.Negotiation.{all_inputs};
-ghost use Rattle.unit_tree.specs.Successor.{first_position};
+ghost use Rattle.unit_tree.specs.Negotiation.{all_inputs, limit_at};
+ghost use Rattle.unit_tree.specs.Successor.{first_position, standings};
 ghost use Rattle.unit_tree.specs.Trace.{row_at, HasWords, IsInBounds, IsInRows};
 
 use crate::accepting::take_step;
@@ -16,13 +17,14 @@ use crate::course::{Course, course_of};
 use crate::opening::{seats_of, states_of};
 use crate::phase::{Phase, Row, Settle};
 use crate::ports::{begin_phase, solve_ports};
-use crate::seat::{Seat, is_empty, slot_of};
+use crate::seat::{Seat, Slot, is_empty, slot_of};
 use crate::steps::{begin_all, commit_all, restore_all};
 use fixed_words::NoMemory;
 use snap_store::Snaps;
 use std::alloc::Global;
 use std::marker::Model;
 use std::sync::Arc;
+use super_time::limit;
 use trace_plan::Plan;
 use trace_units::Units;
 use unit_answers::{Proven, same_key};
@@ -274,6 +276,33 @@ impl Run {
         let seat = &mut self.seats[instance as usize];
         seat.slot = slot_of(self.units.do_step(instance, seat.time, seat.step));
         self.own += 1;
+    }
+
+    /// Returns the step of an instance in the phase: that it is held or was not made yet, or how it ended. Between the call that made
+    /// the last step and [`Run::settle`] this tells how much each instance accepted.
+    pub fn slot(&self, instance: u32) -> Slot
+        requires { instance < length self.now.cells }
+        ensures { option_map slot_seen (slice_get self.now.cells instance) ≡ Some result }
+    {
+        self.seats[instance as usize].slot
+    }
+
+    /// Returns the limit that an instance sets to the step from here, in ticks of the system, or `None` where it sets none. It runs
+    /// the `max` of the instance, which changes nothing. The step of the instance in this phase must not be made yet, since its unit
+    /// has the state after it then.
+    pub fn limit(&mut self, instance: u32) -> Option<u128>
+        requires unmade { option_map is_filled (slice_get self.old.cells instance) ≡ Some false }
+        ensures limit { option_map (limit_at self.old.stand.at.point.t self.old.stand.ports) (slice_get (standings self.old.plan.run self.old.stand.at) instance) ≡ Some result }
+        ensures kept { self.new ≡ self.old }
+    {
+        // Called for its clauses, which state that there is a unit for each instance.
+        let _ = self.units.count();
+        let time = self.seats[instance as usize].time;
+        match self.units.max_step(instance, time) {
+            Ok(Some(local)) => Some(limit(self.plan.factor(instance), self.point.t, local)),
+            Ok(None) => None,
+            Err(_) => None,
+        }
     }
 
     /// Fills the empty cell of an instance with the answer to its step.

@@ -6,7 +6,7 @@ use snap_store::SnapId;
 
 /// The step of an instance in a phase. Where it was made, the unit of the instance has the state after it.
 #[derive(Clone, Copy, Debug, PartialEq, Eq)]
-pub(crate) enum Slot {
+pub enum Slot {
     /// The instance is held.
     Held,
     /// The step was not made yet.

@@ -138,15 +138,6 @@ row_broken plan stand row resolution columns held held' faults faults' tally fau
       cause = tells;
     })
 
--- A row for which there is no memory.
-pub row_refused : (plan : Planned) (stand : Stand) (held : Option (List ℕ)) (faults : ℕ) (tally : Tally)
-    → PutsRow plan stand held held faults faults tally tally (Err NoMemory)
-row_refused plan stand held faults tally = record {
-  whole = tt;
-  front = AppendsPrefix-nil held (lines_of plan.system (rows_here plan stand));
-  cause = record { later = omega arith; failed = λ e. absurd (cc); same = λ _. refl };
-}
-
 -- The fault that a `?` returns.
 pub err_is : {T : Type 0} (result : Result T CrewFault) (fault : CrewFault) → IsErrAnd result (λ e. e ≡ fault) → result ≡ Err fault
 err_is (Ok done) fault is = absurd is

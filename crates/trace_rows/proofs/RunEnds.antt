@@ -36,33 +36,86 @@ use Rattle.trace_rows.proofs.PassedStands.{Walked, walked_end, last_is, front_al
 
 -- ---- The run is over
 
--- The run ended here, and all rows and cells were made.
-pub record IsDone (plan : Planned) (from : Position) (r : RunState) (held0 held : Option (List ℕ)) (tally : Tally) : Type 0 where
-  pub passed : List Stand
+-- The run ended here, after these stands, and all cells were made.
+pub record IsFinished (plan : Planned) (from : Position) (passed : List Stand) (r : RunState) : Type 0 where
   pub walked : Walked plan.run from passed r.stand
-  pub put : ArePut plan (passed ++ (r.stand ∷ [])) held0 held tally
   pub filled : r.found + r.own ≡ cells_of plan.run (passed ++ (r.stand ∷ []))
   pub ending : Ending
   pub phase : r.phase ≡ Ended ending
   pub ended : successor plan.run r.stand.at r.stand.ports ≡ ends ending
 
--- After the row here.
-pub done_there : (plan : Planned) (from : Position) (old new : RunState) (held0 held : Option (List ℕ)) (faults0 faults : ℕ) (tally : Tally)
-    → Kept plan from old held0 held faults0 faults tally → Stops old new → IsDone plan from new held0 held tally
-done_there plan from old new held0 held faults0 faults tally kept there =
+-- At the stand where it was.
+pub over_there : (plan : Planned) (from : Position) (passed : List Stand) (old new : RunState) → IsAt plan from passed old → Stops old new
+    → IsFinished plan from passed new
+over_there plan from passed old new at there =
     let stand : old.stand ≡ new.stand = sym there.stand in
     record {
-      passed = kept.passed;
-      walked = subst (Walked plan.run from kept.passed) stand kept.at.walked;
-      put = subst (λ here. ArePut plan (kept.passed ++ (here ∷ [])) held0 held tally) stand kept.put;
+      walked = subst (Walked plan.run from passed) stand at.walked;
       filled =
-          filled_more plan old.plan kept.passed old.stand (old.found + old.own) (new.found + new.own) kept.at.planned kept.at.filled there.filled
-          ∙ ap (λ here. cells_of plan.run (kept.passed ++ (here ∷ []))) stand;
+          filled_more plan old.plan passed old.stand (old.found + old.own) (new.found + new.own) at.planned at.filled there.filled
+          ∙ ap (λ here. cells_of plan.run (passed ++ (here ∷ []))) stand;
       ending = there.ending;
       phase = there.phase;
       ended = subst (λ (here : Stand). successor plan.run here.at here.ports ≡ ends there.ending) stand
-          (subst (λ (p : Planned). successor p.run old.stand.at old.stand.ports ≡ ends there.ending) kept.at.planned there.ended);
+          (subst (λ (p : Planned). successor p.run old.stand.at old.stand.ports ≡ ends there.ending) at.planned there.ended);
     }
+
+-- At a stand with a port fault, which has no row.
+over_at : (plan : Planned) (from : Position) (passed : List Stand) (r : RunState) (fault : Option Ending) → IsAt plan from passed r
+    → port_fault r.plan.run r.stand.at.states r.stand.ports ≡ fault → (fault ≡ None → ⊥) → IsFinished plan from passed r × (row_at plan.run r.stand ≡ None)
+over_at plan from passed r None at is unknown = absurd (unknown refl)
+over_at plan from passed r (Some ending) at is unknown =
+    let first : first_end r.plan.run r.stand ≡ Some ending =
+    ap (λ fault. first_some (fault ∷ stop_end r.plan.run r.stand.at ∷ row_end r.plan.run r.stand.at ∷ max_end r.plan.run r.stand.at r.stand.ports ∷ [])) is in
+    let over = phase_by r (Some ending) at.fresh first in
+    let none : row_at r.plan.run r.stand ≡ None = ap (λ fault. row_unless fault r.stand.at.point r.stand.ports) is in (
+      record {
+        walked = at.walked;
+        filled = at.filled
+            ∙ nothing_more (cells_of plan.run passed) (cells_at plan.run r.stand)
+            (subst (λ (p : Planned). cells_at p.run r.stand ≡ 0) at.planned (cells_ended r.plan.run r.stand ending first))
+            ∙ sym (cells-push plan.run passed r.stand);
+        ending = ending;
+        phase = over.phase;
+        ended = subst (λ (p : Planned). successor p.run r.stand.at r.stand.ports ≡ ends ending) at.planned
+            (ended_as r.plan.run r.stand r.phase ending (subst (IsPhase r.plan.run r.stand r.phase) over.none at.stands.phase_is) over.phase);
+      },
+      subst (λ (p : Planned). row_at p.run r.stand ≡ None) at.planned none,
+    )
+  where
+    nothing_more : (before here : ℕ) → here ≡ 0 → before ≡ before + here
+    nothing_more before here is = omega arith
+
+-- At the next stand, where this has no row.
+pub over_next : (plan : Planned) (from : Position) (passed : List Stand) (old new : RunState) → Given plan from → IsAt plan from passed old → Passes old new
+    → Stands new → (ArePortsKnown new.plan.run new.stand → ⊥) → IsFinished plan from (passed ++ (old.stand ∷ [])) new × (row_at plan.run new.stand ≡ None)
+over_next plan from passed old new given at on stands unknown =
+    over_at plan from (passed ++ (old.stand ∷ [])) new (port_fault new.plan.run new.stand.at.states new.stand.ports)
+    (passed_at plan from passed old new given at on stands) refl unknown
+
+-- The stands are then a whole rest of the position.
+pub over_goes : (plan : Planned) (from : Position) (passed : List Stand) (r : RunState) (ending : Ending) → Given plan from → IsFinished plan from passed r
+    → r.phase ≡ Ended ending → GoesOnFrom plan.run from (passed ++ (r.stand ∷ [])) ending
+over_goes plan from passed r ending given over is =
+    let one = one_rest plan.run given.order given.members given.ordered from given.words given.in_bounds in
+    let whole = walked_end plan.run from passed r.stand one.stands one.ending over.ending over.walked over.ended one.goes_on in
+    let ends_so : one.ending ≡ ending = whole.1 ∙ same_end (sym over.phase ∙ is) in
+    subst (λ stands. GoesOnFrom plan.run from stands ending) whole.0 (subst (GoesOnFrom plan.run from one.stands) ends_so one.goes_on)
+
+-- All rows were written too.
+pub record IsDone (plan : Planned) (from : Position) (r : RunState) (held0 held : Option (List ℕ)) (tally : Tally) : Type 0 where
+  pub passed : List Stand
+  pub over : IsFinished plan from passed r
+  pub put : ArePut plan (passed ++ (r.stand ∷ [])) held0 held tally
+
+-- After the row here.
+pub done_there : (plan : Planned) (from : Position) (old new : RunState) (held0 held : Option (List ℕ)) (faults0 faults : ℕ) (tally : Tally)
+    → Kept plan from old held0 held faults0 faults tally → Stops old new → IsDone plan from new held0 held tally
+done_there plan from old new held0 held faults0 faults tally kept there = record {
+  passed = kept.passed;
+  over = over_there plan from kept.passed old new kept.at there;
+  put = subst (λ here. ArePut plan (kept.passed ++ (here ∷ [])) held0 held tally) (sym there.stand) kept.put;
+}
 
 -- A stand with a port fault has no row.
 put_on : (plan : Planned) (passed : List Stand) (here : Stand) (held0 held : Option (List ℕ)) (tally : Tally) → row_at plan.run here ≡ None
@@ -77,39 +130,17 @@ put_on plan passed here held0 held tally none put =
       sum = put.sum ∙ ap (sum_shown (columns_of plan.system)) rows;
     }
 
-done_at : (plan : Planned) (from : Position) (passed : List Stand) (r : RunState) (held0 held : Option (List ℕ)) (tally : Tally) (fault : Option Ending)
-    → IsAt plan from passed r → ArePut plan passed held0 held tally → port_fault r.plan.run r.stand.at.states r.stand.ports ≡ fault → (fault ≡ None → ⊥)
-    → IsDone plan from r held0 held tally
-done_at plan from passed r held0 held tally None at put is unknown = absurd (unknown refl)
-done_at plan from passed r held0 held tally (Some ending) at put is unknown =
-    let first : first_end r.plan.run r.stand ≡ Some ending =
-    ap (λ fault. first_some (fault ∷ stop_end r.plan.run r.stand.at ∷ row_end r.plan.run r.stand.at ∷ max_end r.plan.run r.stand.at r.stand.ports ∷ [])) is in
-    let over = phase_by r (Some ending) at.fresh first in
-    let none : row_at r.plan.run r.stand ≡ None = ap (λ fault. row_unless fault r.stand.at.point r.stand.ports) is in
-    record {
-      passed = passed;
-      walked = at.walked;
-      put = put_on plan passed r.stand held0 held tally (subst (λ (p : Planned). row_at p.run r.stand ≡ None) at.planned none) put;
-      filled = at.filled
-          ∙ nothing_more (cells_of plan.run passed) (cells_at plan.run r.stand)
-          (subst (λ (p : Planned). cells_at p.run r.stand ≡ 0) at.planned (cells_ended r.plan.run r.stand ending first))
-          ∙ sym (cells-push plan.run passed r.stand);
-      ending = ending;
-      phase = over.phase;
-      ended = subst (λ (p : Planned). successor p.run r.stand.at r.stand.ports ≡ ends ending) at.planned
-          (ended_as r.plan.run r.stand r.phase ending (subst (IsPhase r.plan.run r.stand r.phase) over.none at.stands.phase_is) over.phase);
-    }
-  where
-    nothing_more : (before here : ℕ) → here ≡ 0 → before ≡ before + here
-    nothing_more before here is = omega arith
-
 -- At a stand that has no row after it.
 pub done_next : (plan : Planned) (from : Position) (old new : RunState) (held0 held : Option (List ℕ)) (faults0 faults : ℕ) (tally : Tally) → Given plan from
     → Kept plan from old held0 held faults0 faults tally → Passes old new → Stands new → (ArePortsKnown new.plan.run new.stand → ⊥)
     → IsDone plan from new held0 held tally
 done_next plan from old new held0 held faults0 faults tally given kept on stands unknown =
-    done_at plan from (kept.passed ++ (old.stand ∷ [])) new held0 held tally (port_fault new.plan.run new.stand.at.states new.stand.ports)
-    (passed_at plan from kept.passed old new given kept.at on stands) kept.put refl unknown
+    let over = over_next plan from kept.passed old new given kept.at on stands unknown in
+    record {
+      passed = kept.passed ++ (old.stand ∷ []);
+      over = over.0;
+      put = put_on plan (kept.passed ++ (old.stand ∷ [])) new.stand held0 held tally over.1 kept.put;
+    }
 
 -- ---- What it reports
 
@@ -131,21 +162,16 @@ report_by r ending tally report is =
 pub reports_rest : (plan : Planned) (from : Position) (r : RunState) (held0 held : Option (List ℕ)) (tally : Tally) (ending : Ending) (report : Report)
     → Given plan from → IsDone plan from r held0 held tally → r.phase ≡ Ended ending → IsReportOf r ending tally report
     → ReportsRest plan from held0 held report
-reports_rest plan from r held0 held tally ending report given done is told =
-    let one = one_rest plan.run given.order given.members given.ordered from given.words given.in_bounds in
-    let whole = walked_end plan.run from done.passed r.stand one.stands one.ending done.ending done.walked done.ended one.goes_on in
-    let stands = done.passed ++ (r.stand ∷ []) in
-    let ends_so : one.ending ≡ report.outcome = whole.1 ∙ same_end (sym done.phase ∙ is) ∙ sym told.outcome in
-    record {
-      stands = stands;
-      goes_on = subst (λ stands. GoesOnFrom plan.run from stands report.outcome) whole.0 (subst (GoesOnFrom plan.run from one.stands) ends_so one.goes_on);
-      last = told.last ∙ sym (last_is done.passed r.stand);
-      out = done.put.out;
-      rows_counted = told.rows ∙ done.put.rows;
-      summed = told.sum ∙ done.put.sum;
-      cells = ap (λ found. found + report.own) told.found ∙ ap (λ own. r.found + own) told.own ∙ done.filled;
-      tickets = told.tickets;
-    }
+reports_rest plan from r held0 held tally ending report given done is told = record {
+  stands = done.passed ++ (r.stand ∷ []);
+  goes_on = subst (GoesOnFrom plan.run from (done.passed ++ (r.stand ∷ []))) (sym told.outcome) (over_goes plan from done.passed r ending given done.over is);
+  last = told.last ∙ sym (last_is done.passed r.stand);
+  out = done.put.out;
+  rows_counted = told.rows ∙ done.put.rows;
+  summed = told.sum ∙ done.put.sum;
+  cells = ap (λ found. found + report.own) told.found ∙ ap (λ own. r.found + own) told.own ∙ done.over.filled;
+  tickets = told.tickets;
+}
 
 -- ---- The run is given up
 

@@ -194,30 +194,34 @@ nothing_put : (plan : Planned) (held : Option (List ℕ)) (tally : Tally) → ta
 nothing_put plan held tally rows sum =
     record { out = subst (Appends held held) (sym (no_lines plan.system)) (Appends-nil held); rows = rows; sum = sum }
 
-pub come_first : (plan : Planned) (from : Position) (r : RunState) (held : Option (List ℕ)) (faults : ℕ) (tally : Tally) → IsOpened plan from r → Stands r
-    → tally.rows ≡ 0 → tally.sum ≡ pos 0 → Come plan from r held held faults faults tally
-come_first plan from r held faults tally opened stands rows sum =
+-- A run that was opened comes after no stands.
+pub at_first : (plan : Planned) (from : Position) (r : RunState) → IsOpened plan from r → Stands r → IsAt plan from [] r
+at_first plan from r opened stands =
     let given = given_by plan from r opened stands in
     let planned : r.plan ≡ plan = ap (λ (s : RunState). s.plan) opened.is in
     let found : r.found ≡ 0 = ap (λ (s : RunState). s.found) opened.is in
     let own : r.own ≡ 0 = ap (λ (s : RunState). s.own) opened.is in
     record {
-      passed = [];
-      at = record {
-        planned = planned;
-        stands = stands;
-        fresh = opened_fresh plan from r opened.is;
-        walked = walked_first plan.run given.order from r.stand given.ordered (subst (λ (p : Planned). HasWords p.run r.stand.at) planned stands.words)
-            (subst (λ (p : Planned). IsStand p.run r.stand) planned stands.is_stand) (ap (λ (s : RunState). s.stand.at) opened.is);
-        filled = none_filled r.found r.own found own;
-      };
-      put = nothing_put plan held tally rows sum;
-      few = subst (λ n. n ≤ r.stand.at.number) (sym rows) (omega arith);
-      same = refl;
+      planned = planned;
+      stands = stands;
+      fresh = opened_fresh plan from r opened.is;
+      walked = walked_first plan.run given.order from r.stand given.ordered (subst (λ (p : Planned). HasWords p.run r.stand.at) planned stands.words)
+          (subst (λ (p : Planned). IsStand p.run r.stand) planned stands.is_stand) (ap (λ (s : RunState). s.stand.at) opened.is);
+      filled = none_filled r.found r.own found own;
     }
   where
     none_filled : (found own : ℕ) → found ≡ 0 → own ≡ 0 → found + own ≡ 0
     none_filled found own none nor = omega arith
+
+pub come_first : (plan : Planned) (from : Position) (r : RunState) (held : Option (List ℕ)) (faults : ℕ) (tally : Tally) → IsOpened plan from r → Stands r
+    → tally.rows ≡ 0 → tally.sum ≡ pos 0 → Come plan from r held held faults faults tally
+come_first plan from r held faults tally opened stands rows sum = record {
+  passed = [];
+  at = at_first plan from r opened stands;
+  put = nothing_put plan held tally rows sum;
+  few = subst (λ n. n ≤ r.stand.at.number) (sym rows) (omega arith);
+  same = refl;
+}
 
 -- ---- How many rows are left
 

@@ -8,7 +8,7 @@ ghost use Rattle.trace_rows.specs.Faults.{TellsFault};
 ghost use Rattle.trace_rows.specs.Sums.{IsBoundedBy, word_shown, row_sum};
 ghost use Rattle.trace_core.specs.Runs.{Stands};
 ghost use Rattle.trace_csv.specs.TraceText.{HasWord, row_line};
-ghost use Rattle.model_rules.specs.Limits.{rows_limit};
+ghost use Rattle.model_rules.specs.Limits.{rows_limit, sample_limit};
 
 use crate::fault::CrewFault;
 use crate::tally::Tally;
@@ -17,9 +17,6 @@ use std::alloc::Global;
 use trace_core::{Plan, Row, Run};
 use trace_csv::{RowWriter, header_text};
 use unit_tree::Column;
-
-/// No line that fits in memory has more columns.
-const MOST_COLUMNS: usize = 1 << 32;
 
 /// Returns what the field of a column adds to a sum.
 fn word_shown(column: Column, ports: &[i64]) -> i64
@@ -36,7 +33,7 @@ fn word_shown(column: Column, ports: &[i64]) -> i64
 /// Returns the sum of the words that a row shows.
 fn row_sum(columns: &[Column], ports: &[i64]) -> i128
     requires words { AllByRecursion (HasWord ports.now) columns.now }
-    requires few { length columns.now ≤ 2 ^ 32 }
+    requires few { length columns.now ≤ sample_limit }
     ensures sum { result ≡ row_sum columns.now ports.now }
     ensures bound { IsBoundedBy (2 ^ 95) result }
 {
@@ -118,9 +115,6 @@ impl RowRoom {
             return Ok(());
         };
         let columns = plan.columns();
-        if columns.len() > MOST_COLUMNS {
-            return Err(CrewFault::NoMemory);
-        }
         put_line(
             &mut self.writer,
             plan.resolution(),

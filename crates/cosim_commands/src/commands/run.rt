@@ -24,7 +24,7 @@ use unit_tree::Ending;
 use work_crew::{Gate, Policy, run_crew};
 
 /// Returns the plan of the system of a text, or the text's refusal.
-pub(crate) fn plan_of(alloc: Global, text: &[u8]) -> Result<Arc<Plan>, Stopped>
+pub fn plan_of(alloc: Global, text: &[u8]) -> Result<Arc<Plan>, Stopped>
     ensures planned { IfOk result (λ plan. IsAccepted text.now plan.value.system) }
     ensures whole { IfOk result (λ plan. plan.value ≡ planned plan.value.system) }
     ensures refused { IfErr result (IsUnaccepted text.now) }
@@ -95,7 +95,7 @@ pub(crate) fn run_crewed<R: Threads + Wait + Copy + Send + Drop + 'static, O: Si
 }
 
 /// Returns the status of how a run ended.
-pub(crate) fn status(ending: Ending) -> Status
+pub fn status(ending: Ending) -> Status
     ensures { result ≡ status_of ending }
 {
     match ending {

@@ -4,7 +4,7 @@ use Rattle.std.proofs.lemmas.Int.{to_z-of_z}
 use Rattle.trace_core.specs.Runs.{row_told}
 use Rattle.trace_plan.specs.Plans.{Planned}
 use Rattle.unit_tree.specs.Trace.{row_at}
-use Rattle.trace_rows.proofs.RowLaws.{told_none, told_some, err_is, no_row_put, row_put, row_broken, row_refused, row_shows}
+use Rattle.trace_rows.proofs.RowLaws.{told_none, told_some, err_is, no_row_put, row_put, row_broken, row_shows}
 use Rattle.trace_rows.proofs.rows.RowRoom.put_row.Goals as goal
 
 pub returns-in_default : goal.returns-in_default
@@ -35,10 +35,6 @@ returns g c =
     c.resolution.ensures.value c.columns-columns.ensures.columns c.in_ok-put_line.ensures.whole
     (c.in_ok-put_line.ensures.cause.same (λ e. absurd (cc)))
     c.count.ensures.rows c.count.ensures.sum (to_z-of_z w128 c.row_sum.result fits ∙ c.row_sum.ensures.sum)
-
-pub returns-then-columns-gt-MOST_COLUMNS : goal.returns-then-columns-gt-MOST_COLUMNS
-returns-then-columns-gt-MOST_COLUMNS g c =
-    row_refused c.args.plan.now c.args.run.now.stand (g.O.Sink.held c.args.out.now) (g.O.Sink.faults c.args.out.now) c.args.tally.now
 
 pub put_line-requires-clause-words : goal.put_line-requires-clause-words
 put_line-requires-clause-words g c =
