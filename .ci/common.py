@@ -6,6 +6,7 @@ import sys
 
 ROOT = os.path.join(os.path.dirname(os.path.abspath(__file__)), "..")
 BUILT = "crates/cosim_app/out/cosim_app"
+BUILT_STEPS = "crates/steps_app/out/steps_app"
 
 # The notes on words that have no form, on streams that fail, and on lack of memory.
 USAGE = "cosim: usage\n"
@@ -51,22 +52,33 @@ def print_page(page: str) -> None:
     print(page, flush=True)
 
 
-def find_program(words, document):
-    """The program that is named by the words, or the one that was built. Goes to the folder of the repository. Ends the
-    process where there are more words, or there is no program."""
-    if len(words) > 1:
+def find_programs(words, document):
+    """The programs cosim and cosim-steps: those that are named by the words, or the ones that were built. Goes to the folder of the
+    repository. Ends the process where there are more words, or there is no program cosim."""
+    if len(words) > 2:
         print_page(document)
         sys.exit(2)
-    program = os.path.abspath(words[0] if words else os.path.join(ROOT, BUILT))
+    built = [os.path.join(ROOT, path) for path in (BUILT, BUILT_STEPS)]
+    program, steps = map(os.path.abspath, [*words, *built[len(words) :]])
+    require_program(program)
+    os.chdir(ROOT)
+    return program, steps
+
+
+def require_program(program):
+    """Ends the process where there is no such program."""
     if not os.path.isfile(program) or not os.access(program, os.X_OK):
         print(f"there is no program {program}")
         sys.exit(1)
-    os.chdir(ROOT)
-    return program
 
 
-def choose_checks(words: list[str], document: str, checks: tuple) -> tuple[str, list]:
-    """The program that is tried, as `find_program` finds it, and those of the checks that the words name, or all. Where the
+def find_program(words, document):
+    """The program cosim, as `find_programs` finds it."""
+    return find_programs(words, document)[0]
+
+
+def choose_checks(words: list[str], document: str, checks: tuple) -> tuple[tuple[str, str], list]:
+    """The programs that are tried, as `find_programs` finds them, and those of the checks that the words name, or all. Where the
     word is `--list`, prints the checks, and ends the process."""
     names = {check.__name__: check for check in checks}
     assert len(names) == len(checks), "two checks have one name"
@@ -78,7 +90,7 @@ def choose_checks(words: list[str], document: str, checks: tuple) -> tuple[str, 
     if unknown:
         print(f"{unknown[0]!r} is neither a program nor the name of a check, which --list prints")
         sys.exit(2)
-    return find_program(others, document), [check for name, check in names.items() if name in words] or list(checks)
+    return find_programs(others, document), [check for name, check in names.items() if name in words] or list(checks)
 
 
 def tell(got, wanted):

@@ -37,6 +37,9 @@ NOT_OF_CRATES = {
 NOT_KEPT = {
     "crates/cosim_app/out": "a build makes it",
     "crates/cosim_app/out/cosim_app": "a build makes it",
+    "crates/steps_app/out": "a build makes it",
+    "crates/steps_app/out/steps_app": "a build makes it",
+    "bin/steps-sources.sha256": "tools/renew makes it",
 }
 
 # Tools that commands begin with and that a machine may lack, and why that is right.

@@ -32,6 +32,9 @@ cosim_command nodes model '--seed N --rounds 1..100000' 'the trace by two nodes 
 cosim_command gen '' '--seed N --instances 1..64 --rows 1..100000' 'a model that is made from a number'
 cosim_command bench '' '--seed N --instances 1..64 --rows 1..100000' 'figures of the trace of that model'
 
+# The columns of the step log that cosim-steps prints.
+cosim_steps_columns=time,index,proposed,limited_by,agreed,shortened_by,accepted,redone,held
+
 # The most that the instances of `gen` and `bench` times their rows may be.
 cosim_most_words=1000000
 

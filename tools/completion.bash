@@ -32,4 +32,16 @@ _cosim() {
   mapfile -t COMPREPLY < <(compgen -W "$choices" -- "$word")
 }
 
+# Completes the words of cosim-steps: it takes none, but those that the script answers.
+_cosim_steps() {
+  local word=$2 before=$3 choices=
+  if [[ "$before" = *[\<\>] ]]; then
+    compopt -o default 2>/dev/null
+  elif ((COMP_CWORD == 1)); then
+    choices='help --help --version'
+  fi
+  mapfile -t COMPREPLY < <(compgen -W "$choices" -- "$word")
+}
+
 complete -F _cosim cosim ./cosim
+complete -F _cosim_steps cosim-steps ./cosim-steps

@@ -1,22 +1,38 @@
 # shellcheck shell=bash disable=SC2034,SC2154
-# The sources of the program, for the scripts that build it, keep it or compare it: they set `here` to the folder of the
-# repository, by its full path, and read this file.
+# The sources of the programs, for the scripts that build them, keep them or compare them: they set `here` to the folder of the
+# repository, by its full path, read this file, and choose a program by its name.
 
-# What a build makes, what is kept in the repository, and the records of both. A record has three lines: the checksum of the
-# sources that the program was built from, the kit that built it, and the program's own checksum.
-built=$here/crates/cosim_app/out/cosim_app
-built_from=$built.sources.sha256
-kept=$here/bin/cosim-x86_64-linux
-kept_from=$here/bin/sources.sha256
+# The programs. Of each: the crate of its `main`, the record of what bin/ keeps, and the words by which a build tries it on a model.
+programs=(cosim cosim-steps)
+declare -A app_of=([cosim]=cosim_app [cosim-steps]=steps_app)
+declare -A record_of=([cosim]=sources.sha256 [cosim-steps]=steps-sources.sha256)
+declare -A tried_by=([cosim]="run" [cosim-steps]="")
 
 no_kit="the Rattle kit, which proves and builds the program, isn't on this machine: there is no command rt. \
 \"What it depends on\" in $here/README.md tells of it"
 
-# The crates of the repository that each crate depends on, by crates.txt; and those of the program in the order in which
+# The crates of the repository that each crate depends on, by crates.txt; and those of the chosen program in the order in which
 # they are proved, lowest first.
 declare -A below=()
 order=()
 
+# Chooses the program that the other functions are about. Sets its crate `app`, what a build makes, what is kept in the repository,
+# and the records of both. A record has three lines: the checksum of the sources that the program was built from, the kit that built
+# it, and the program's own checksum.
+choose_program() {
+  chosen=$1
+  app=${app_of[$1]}
+  built=$here/crates/$app/out/$app
+  built_from=$built.sources.sha256
+  kept=$here/bin/$1-x86_64-linux
+  kept_from=$here/bin/${record_of[$1]}
+  of_others=
+  order=()
+  if ((${#below[@]} == 0)); then read_crates; fi
+  put_in_order "$app"
+}
+
+# Reads which crates each crate depends on.
 read_crates() {
   local name rest crate ours
   while IFS=: read -r name rest; do
@@ -30,7 +46,6 @@ read_crates() {
     done
     below[$name]=$ours
   done
-  put_in_order cosim_app
 }
 
 # Adds a crate to the order, after those that it depends on.
@@ -41,7 +56,7 @@ put_in_order() {
   order+=("$1")
 }
 
-# Finds the files that the program is made of, by their paths in the repository, and through links; the words go to `find`.
+# Finds the files that the chosen program is made of, by their paths in the repository, and through links; the words go to `find`.
 find_sources() (
   cd "$here" || exit
   exec find -L crates.txt HANDLES "${order[@]/#/crates/}" \( -name out -o -name must-fail \) -prune -o \
@@ -80,9 +95,7 @@ is_from_sources() {
 
 # Whether the kept program is the one that was kept, and that of the sources, and starts here. What is wrong
 # with it is noted in `of_others`. Where the machine or its C library is another one, the program doesn't end with status 2, which
-# it does without words, reading nothing.
-of_others=
-
+# it does with an empty word, reading nothing.
 is_kept_right() {
   local status=0
   if ! is_recorded "$kept" "$kept_from"; then
@@ -93,7 +106,7 @@ is_kept_right() {
     of_others="the program that bin/ keeps is of other sources"
     return 1
   fi
-  "$kept" </dev/null >/dev/null 2>&1 || status=$?
+  "$kept" '' </dev/null >/dev/null 2>&1 || status=$?
   [ "$status" = 2 ]
 }
 
@@ -108,10 +121,10 @@ why_build() {
   fi
 }
 
-# Prints the program that ./cosim starts without a build, or says why there is none.
+# Prints the program of a name that its script starts without a build, or says why there is none.
 find_program() {
   local reason
-  read_crates
+  choose_program "$1"
   if is_kept_right; then
     echo "$kept"
     return
@@ -124,7 +137,7 @@ find_program() {
   echo "$built"
 }
 
-# Writes the record of the program that was built just now, from the sources with this checksum.
+# Writes the record of the chosen program, which was built just now, from the sources with this checksum.
 record_built() {
   local kit sum
   kit=$(rt version) && sum=$(sum_input <"$built") && printf '%s\n' "$1" "$kit" "$sum" >"$built_from"

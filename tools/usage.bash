@@ -229,8 +229,33 @@ show_call() {
   say "the ${cosim_reads[${formed[0]}]} comes on standard input: $call"
 }
 
+# Judges the words of cosim-steps, which takes none.
+judge_words_of_steps() {
+  if (($# == 0)); then return; fi
+  if (($# == 1)) && [ -f "$1" ]; then
+    files=("$1")
+  else
+    blame "cosim-steps takes no words, and here is $(shown "$1")"
+  fi
+}
+
+# Says of a call of cosim-steps what `hint` says of one of cosim.
+hint_steps() {
+  judge_words_of_steps "$@"
+  if [ -n "$fault" ]; then say "$fault"; fi
+  if ((${#files[@]})); then
+    say "the model comes on standard input: $(printf '%q < %q' "$0" "${files[0]}")"
+  elif [[ -z "$fault" && -t 0 ]]; then
+    say "the model is read from the terminal, up to Ctrl-D on a line of its own"
+  fi
+}
+
 # Says why the words of a call have no form, or that the program is going to read the terminal.
 hint() {
+  if [ "$chosen" != cosim ]; then
+    hint_steps "$@"
+    return
+  fi
   judge_words "$@"
   if [ -n "$fault" ]; then say "$fault"; fi
   if ((${#files[@]})); then

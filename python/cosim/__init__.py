@@ -11,6 +11,7 @@ from .joining import join
 from .models import Model, Saved, Verdict
 from .outcomes import Fault, Outcome, RowBudgetSpent, RunEnded, StepRefused, ZeroBudgetSpent
 from .reports import report
+from .steps import Step, StepLog
 from .sweeps import Sweep, SweepRow, sweep
 from .traces import Column, Difference, Row, Trace
 
@@ -30,6 +31,8 @@ __all__ = [
     "RowBudgetSpent",
     "RunEnded",
     "Saved",
+    "Step",
+    "StepLog",
     "StepRefused",
     "Sweep",
     "SweepRow",

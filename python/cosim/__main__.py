@@ -1,15 +1,16 @@
 """Draws models and reports on them from the command line.
 
-    python -m cosim plot MODEL -o FILE [--columns NAME ..] [--until SECONDS]
+    python -m cosim plot MODEL -o FILE [--columns NAME ..] [--until SECONDS] [--steps]
         runs a model, and draws its trace. The end of FILE says the format: .svg, .png or .pdf
 
-    python -m cosim report MODEL -o FILE [--columns NAME ..] [--until SECONDS] [--trace TRACE] [--against OTHER]
+    python -m cosim report MODEL -o FILE [--columns NAME ..] [--until SECONDS] [--steps] [--trace TRACE] [--against OTHER]
                            [--tolerance TOLERANCE ..]
         writes a page about a model and its trace into FILE, whose name ends in .html. With --trace the rows are those of a
         file, and else the model is run. OTHER is a trace in a file, or another model, which is run; the page lists where the
         two differ. A TOLERANCE is a number for all columns, or NAME=NUMBER for one
 
-MODEL is a text of a model, with groups or without. The status is that of `cosim run`: 0 where the run came to its stop, and 6 to
+MODEL is a text of a model, with groups or without. With --steps the lengths of its steps are there too, with what limits
+them; that requires the program cosim-steps. The status is that of `cosim run`: 0 where the run came to its stop, and 6 to
 9 where it ended early, with the program's note; then the rows up to there are drawn. It is 1 where a file can't be read, 2 where
 the words have no form, 5 where FILE can't be written, and 69 where the program or a package is missing. Of two runs it is the
 status of the first that ended early. A difference changes no status.
@@ -73,6 +74,7 @@ def read_words(words: Sequence[str]) -> argparse.Namespace:
         command.add_argument("-o", dest="output", metavar="FILE", required=True, help=f"the {what}, whose name ends in {', '.join(ends)}")
         command.add_argument("--columns", nargs="+", metavar="NAME", help="the columns that are drawn, as plate.degrees; else all")
         command.add_argument("--until", metavar="SECONDS", help="takes no rows after this time")
+        command.add_argument("--steps", action="store_true", help="shows how long the steps are, and why")
     page.add_argument("--trace", metavar="TRACE", help="a file with rows of the model, which then isn't run")
     page.add_argument("--against", metavar="OTHER", help="a file with other rows, or another model, which is compared")
     page.add_argument("--tolerance", nargs="+", metavar="TOLERANCE", help="how far numbers may be apart: 0.5, or plate.degrees=0.5 for one column")
@@ -91,8 +93,9 @@ def make_plot(given: argparse.Namespace) -> Made:
     model = Model.read(given.model)
     columns_of(without_rows(model), given.columns)
     require_output(given.output)
+    steps = given.steps and model.steps()
     trace = model.run(until=given.until)
-    figure, end = trace.plot(given.columns), os.path.splitext(given.output)[1]
+    figure, end = trace.plot(given.columns, steps=steps), os.path.splitext(given.output)[1]
     return Made(lambda file: figure.savefig(file, format=end[1:], metadata=METADATA[end]), [trace.outcome])
 
 
@@ -106,10 +109,11 @@ def make_report(given: argparse.Namespace) -> Made:
     columns.diff(columns if against is None else without_rows(against), tolerance)
     require_output(given.output)
     other = read_rows(model, given.against, given.until) if given.against is not None and against is None else None
+    steps = given.steps and model.steps()
     trace = model.run(until=given.until) if given.trace is None else read_rows(model, given.trace, given.until)
     other = other if against is None else against.run(until=given.until)
     labels = labels_of(given.trace or given.model, given.against or "")
-    page = report(model, trace, other, tolerance, given.columns, labels=labels)
+    page = report(model, trace, other, tolerance, given.columns, labels=labels, steps=steps)
     return Made(lambda file: file.write(page), [each.outcome for each in (trace, other) if each is not None])
 
 

@@ -18,13 +18,18 @@ by their names alone.
 A float is the nearest one to the value. Whole numbers up to 2^53 are exact as floats; a value of `Fixed N` comes back when it
 is rounded to N decimals, which is sure for words up to 2^52. Each value is compared, and one that doesn't come back is the
 error InexactFloat. `frame.attrs["floats"]` has the names of the columns that became floats.
+
+A frame of a step log has its columns in the same types: times are as the index, names are texts, `accepted` is Int64, `redone` is
+bool, and `held` is int64. Where nobody accepted less, `shortened_by` is None and `accepted` is pandas.NA.
 """
 from decimal import Decimal
-from typing import Iterable, List, Optional, Union
+from fractions import Fraction
+from typing import Iterable, List, Optional, Sequence, Union
 
 import pandas
 
 from .errors import InexactFloat, UnfitValue
+from .steps import OF_SECONDS, StepLog
 from .traces import INDEX, TIME, Trace
 from .values import Value, decimals_of, exact
 
@@ -59,6 +64,30 @@ def index_of(trace: Trace, as_floats: bool) -> pandas.Index:
     times: List[Optional[Value]] = [exact(ticks, trace.resolution) if trace.resolution else ticks for ticks in trace.ticks]
     type_name = f"Fixed {trace.resolution}" if trace.resolution else "Int64"
     return pandas.Index(array_of(times, type_name, False, as_floats, TIME), name=TIME)
+
+
+def frame_of_steps(log: StepLog, floats: bool) -> pandas.DataFrame:
+    """The frame of a step log. Its times, with those of `proposed` and `agreed`, are as the times of a trace."""
+    as_floats = floats and bool(log.resolution)
+
+    def seconds(times: Sequence[Fraction], name: str) -> pandas.Series:
+        ticks = [int(time * 10**log.resolution) for time in times]
+        values: List[Optional[Value]] = [exact(each, log.resolution) if log.resolution else each for each in ticks]
+        return array_of(values, f"Fixed {log.resolution}" if log.resolution else "Int64", False, as_floats, name)
+
+    data = {
+        INDEX: pandas.array([step.index for step in log], dtype="int64"),
+        "proposed": seconds([step.proposed for step in log], "proposed"),
+        "limited_by": pandas.array([step.limited_by for step in log], dtype="object"),
+        "agreed": seconds([step.agreed for step in log], "agreed"),
+        "shortened_by": pandas.array([step.shortened_by for step in log], dtype="object"),
+        "accepted": pandas.array([step.accepted for step in log], dtype="Int64"),
+        "redone": pandas.array([step.redone for step in log], dtype="bool"),
+        "held": pandas.array([step.held for step in log], dtype="int64"),
+    }
+    frame = pandas.DataFrame(data, index=pandas.Index(seconds([step.time for step in log], TIME), name=TIME))
+    frame.attrs["floats"] = [TIME, *OF_SECONDS] if as_floats else []
+    return frame
 
 
 def array_of(values: List[Optional[Value]], type_name: str, is_event: bool, as_floats: bool, name: str) -> pandas.Series:

@@ -18,6 +18,7 @@ from .running import Table, Watch, ask_program, judge, read_trace, started, trac
 from .settings import Template, literal_of_stop, nearest, paths_of, set_in_instance, set_in_unit, template_of, value_of_literal
 from .sources import FileLine, Source
 from .statuses import Status
+from .steps import StepLog, read_log
 from .streams import Path, read_at_most, read_file
 from .traces import Row, Trace, header_of, require_header
 from .values import Given, Seconds, Value, literal_of, seconds_of, value_of_word
@@ -327,8 +328,19 @@ class Model:
         limit = None if until is None else seconds_of(until, "until")
         with watch_of(progress, self.stop) as watch:
             if limit is None and watch is None:
-                return read_trace(words, self.runnable, self.source_of_runnable, self.table())
-            return watch_trace(words, self.runnable, self.source_of_runnable, self.table(), limit, watch)
+                trace = read_trace(words, self.runnable, self.source_of_runnable, self.table())
+            else:
+                trace = watch_trace(words, self.runnable, self.source_of_runnable, self.table(), limit, watch)
+        trace._model = self
+        return trace
+
+    def steps(self) -> StepLog:
+        """The step log of this model, as `cosim-steps` prints it: why each step of its run is as long as it is.
+
+        A run that ends early has a log too, up to its end: see `StepLog.outcome`. Refused where the model breaks a rule, and
+        NoProgram where there is no program cosim-steps.
+        """
+        return read_log(self.runnable, self.source_of_runnable, self.system.resolution)
 
     def rows(self, workers: int = 0, window: Optional[int] = None, guess: Optional[str] = None) -> Iterator[Row]:
         """The rows of the trace as they come. The run is stopped where they are read no further.

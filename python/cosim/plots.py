@@ -3,12 +3,17 @@
 A value holds up to the next row, so numbers are steps, and truth values bands where they are true. Events are marks, with their
 values where these are numbers. A vertical line is at each time that has several points.
 
+Under the columns may be the lengths of steps, one colour for each cause: who shortened the step, or else what limited it.
+
 A picture is made of floats, which are the nearest ones to the values; they go nowhere else.
 """
-from typing import Any, List, Optional, Sequence, Tuple
+from typing import TYPE_CHECKING, Any, Dict, List, Optional, Sequence, Tuple, Union
 
 from .errors import UnfitValue
 from .traces import Column, Trace
+
+if TYPE_CHECKING:
+    from .steps import Step, StepLog
 
 # The size of a figure in inches: its width, and the height of each plot and of what is around them.
 WIDTH = 9.0
@@ -20,26 +25,53 @@ MOST_COLUMNS = 64
 
 LINE = "#9aa0a6"
 
+# The title of the plot of steps, how many colours matplotlib has in a row, and how many causes a line of the legend has.
+STEPS_TITLE = "length of steps, in seconds"
+COLOURS = 10
+MOST_IN_A_LINE = 5
 
-def plot(trace: Trace, names: Optional[Sequence[str]] = None, figure: Any = None) -> Any:
+
+def plot(trace: Trace, names: Optional[Sequence[str]] = None, figure: Any = None, steps: Union[bool, "StepLog"] = False) -> Any:
     """A figure with a plot for each of the columns, or for all.
 
-    `figure` is a figure of matplotlib to draw in; without one a new figure is made, which belongs to no window. UnknownName
-    where there is no such column, and UnfitValue where there is none to draw or too many.
+    `figure` is a figure of matplotlib to draw in; without one a new figure is made, which belongs to no window. With `steps` the
+    last plot has the lengths of steps: True for those of the model that the trace is a run of, or a step log. UnknownName where
+    there is no such column, and UnfitValue where there is none to draw or too many, or the trace has no model.
     """
     from matplotlib.figure import Figure
 
     columns = columns_of(trace, names)
-    figure = figure or Figure(figsize=(WIDTH, AROUND + HEIGHT * len(columns)), layout="constrained")
-    all_axes = figure.subplots(len(columns), 1, sharex=True, squeeze=False)[:, 0]
+    log = trace.steps() if steps is True else steps or None
+    count = len(columns) + (log is not None)
+    figure = figure or Figure(figsize=(WIDTH, AROUND + HEIGHT * count), layout="constrained")
+    all_axes = figure.subplots(count, 1, sharex=True, squeeze=False)[:, 0]
     times = [float(time) for time in trace.time]
     for axes, column in zip(all_axes, columns):
         axes.set_title(column.name, loc="left", fontsize="medium")
         draw(axes, trace, column, times)
         for time in times_of_several_points(times):
             axes.axvline(time, color=LINE, linewidth=0.8, linestyle=":")
+    if log is not None:
+        draw_steps(all_axes[-1], [step for step in log if not times or step.time < trace.time[-1]])
     all_axes[-1].set_xlabel("seconds")
     return figure
+
+
+def draw_steps(axes: Any, steps: Sequence["Step"]) -> None:
+    """Draws the length of each step from its begin to its end, in the colour of its cause. Steps of length zero are marks."""
+    axes.set_title(STEPS_TITLE, loc="left", fontsize="medium")
+    by_cause: Dict[str, List["Step"]] = {}
+    for step in steps:
+        by_cause.setdefault(step.cause, []).append(step)
+    for place, (cause, found) in enumerate(by_cause.items()):
+        colour = f"C{place % COLOURS}"
+        lengths, starts, ends = ([float(value) for value in values] for values in zip(*((step.agreed, step.time, step.end) for step in found)))
+        axes.hlines(lengths, starts, ends, colors=colour, linewidth=2, label=cause)
+        zeros = [float(step.time) for step in found if step.agreed == 0]
+        axes.plot(zeros, [0.0] * len(zeros), linestyle="none", marker="|", color=colour)
+    axes.set_ylim(bottom=0)
+    if by_cause:
+        axes.legend(fontsize="small", loc="lower right", bbox_to_anchor=(1, 1), ncol=MOST_IN_A_LINE, frameon=False, borderaxespad=0.2)
 
 
 def columns_of(trace: Trace, names: Optional[Sequence[str]]) -> List[Column]:

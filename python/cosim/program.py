@@ -25,6 +25,11 @@ OUTPUTS = {
     "resume": re.compile(rb"\d"),
 }
 
+# The programs, each with the variable of the environment that names it.
+COSIM = "cosim"
+STEPS = "cosim-steps"
+VARIABLES = {COSIM: "COSIM", STEPS: "COSIM_STEPS"}
+
 # How many bytes of an output are read at once.
 PIECE = 1 << 16
 
@@ -34,33 +39,33 @@ PAUSE = 5
 SHORT_PAUSE = 1
 
 
-def program() -> str:
-    """The program that is asked: the one that the environment names by COSIM, or ./cosim of the repository, which builds it
-    where it isn't there. Outside of a repository it is the `cosim` of the PATH."""
-    named = os.environ.get("COSIM")
+def program(name: str = COSIM) -> str:
+    """The program of a name that is asked: the one that its variable of the environment names, or its script in the repository,
+    which builds it where it isn't there. Outside of a repository it is the program of this name of the PATH."""
+    named = os.environ.get(VARIABLES[name])
     if named:
         return named
-    return os.path.join(REPOSITORY, "cosim") if REPOSITORY else shutil.which("cosim") or "cosim"
+    return os.path.join(REPOSITORY, name) if REPOSITORY else shutil.which(name) or name
 
 
 def is_script(named: str) -> bool:
-    """Whether a program is the script ./cosim of a repository, which may build a program."""
+    """Whether a program is a script of a repository, ./cosim or ./cosim-steps, which may build a program."""
     folder = os.path.dirname(os.path.realpath(named))
-    return os.path.basename(named) == "cosim" and os.path.exists(os.path.join(folder, "tools", "sources.bash"))
+    return os.path.basename(named) in VARIABLES and os.path.exists(os.path.join(folder, "tools", "sources.bash"))
 
 
 @functools.lru_cache(maxsize=None)
 def started_by(script: str) -> str:
-    """The program that a script ./cosim starts; of another program itself.
+    """The program that a script of a repository starts; of another program itself.
 
     The script computes checksums at each start, which takes longer than a short run. It also builds a program that isn't
     there, which takes an hour: a call from here is an error instead, OSError with the reason.
     """
     if not is_script(script):
         return script
-    folder = os.path.dirname(os.path.realpath(script))
-    find = 'here=$1; source "$here/tools/sources.bash"; find_program'
-    words = ["bash", "-pc", find, "bash", folder]
+    folder, name = os.path.split(os.path.realpath(script))
+    find = 'here=$1; source "$here/tools/sources.bash"; find_program "$2"'
+    words = ["bash", "-pc", find, "bash", folder, name]
     found = subprocess.run(words, stdin=subprocess.DEVNULL, stdout=subprocess.PIPE, stderr=subprocess.DEVNULL, check=False)
     printed = os.fsdecode(found.stdout).rstrip("\n")
     if found.returncode:
@@ -101,10 +106,10 @@ def nameless_file(content: bytes = b"") -> BinaryIO:
 class Call:
     """A call of the program whose output is read as it comes. OSError where the program can't be started."""
 
-    def __init__(self, words: Sequence[str], text: bytes) -> None:
+    def __init__(self, words: Sequence[str], text: bytes, name: str = COSIM) -> None:
         self.notes = nameless_file()
         with nameless_file(text) as given:
-            call = [started_by(program()), *words]
+            call = [started_by(program(name)), *words]
             self.process = subprocess.Popen(call, stdin=given, stdout=subprocess.PIPE, stderr=self.notes)
 
     def pieces(self, pause: int = 0) -> Iterator[bytes]:
@@ -151,9 +156,9 @@ class Call:
         return Called(status_of(self.process.returncode), output, notes)
 
 
-def call(words: Sequence[str], text: bytes) -> Called:
-    """Calls the program with these words and a text as its input. OSError where it can't be started."""
-    begun = Call(words, text)
+def call(words: Sequence[str], text: bytes, name: str = COSIM) -> Called:
+    """Calls the program of a name with these words and a text as its input. OSError where it can't be started."""
+    begun = Call(words, text, name)
     try:
         return begun.finish(b"".join(begun.pieces(PAUSE)))
     except BaseException:

@@ -7,7 +7,7 @@ from typing import Callable, Iterator, List, NamedTuple, Optional, Sequence, Uni
 from .canonical import Port
 from .errors import NoProgram, UnfitValue, failed, refused
 from .outcomes import STOPPED, Outcome, counts_of, outcome_of
-from .program import Call, Called, call, is_foreign, program, read_refusal
+from .program import COSIM, VARIABLES, Call, Called, call, is_foreign, program, read_refusal
 from .progress import bar
 from .repository import read_document
 from .sources import Source
@@ -37,8 +37,8 @@ def shown(words: Sequence[str]) -> str:
     return " ".join(["cosim", *words])
 
 
-def start_failed(error: OSError) -> NoProgram:
-    message = f"the program {program()} can't be started: {error.strerror}. The variable COSIM names another"
+def start_failed(error: OSError, name: str = COSIM) -> NoProgram:
+    message = f"the program {program(name)} can't be started: {error.strerror}. The variable {VARIABLES[name]} names another"
     return NoProgram(message, Status.NO_PROGRAM, "")
 
 

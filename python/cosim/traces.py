@@ -12,6 +12,8 @@ from .values import Given, Value, form_of, fraction_of, is_in_range, ticks_of, v
 
 if TYPE_CHECKING:
     import pandas
+    from .models import Model
+    from .steps import StepLog
 
 TIME = "time"
 INDEX = "index"
@@ -90,6 +92,7 @@ class Trace:
         self.outcome = outcome
         self.has_header = has_header
         self.counts = dict(counts or {})
+        self._model: Optional["Model"] = None
         self._lines: Optional[List[str]] = None
         self._records: Optional[List[List[str]]] = None
         self._values: Dict[str, List[Optional[Value]]] = {}
@@ -216,11 +219,17 @@ class Trace:
 
         return frame_of(self, floats)
 
-    def plot(self, names: Optional[Sequence[str]] = None, figure: Any = None) -> Any:
+    def steps(self) -> "StepLog":
+        """The step log of the model that this trace is a run of, as by `Model.steps`. UnfitValue where the trace comes from elsewhere."""
+        if self._model is None:
+            raise UnfitValue("steps: the trace is that of no run of a model; Model.steps returns the step log of a model")
+        return self._model.steps()
+
+    def plot(self, names: Optional[Sequence[str]] = None, figure: Any = None, steps: Union[bool, "StepLog"] = False) -> Any:
         """A figure of matplotlib with a plot for each of the columns, or for all: see `cosim.plots.plot`."""
         from .plots import plot
 
-        return plot(self, names, figure)
+        return plot(self, names, figure, steps)
 
     def diff(self, other: "Trace", tolerance: Union[Given, Mapping[str, Given]] = 0) -> List[Difference]:
         """What differs between this trace and another one, in the order of their points.

@@ -6,12 +6,13 @@ import plotly
 from plotly.offline import get_plotlyjs_version
 
 from ..models import Model
+from ..steps import StepLog
 from ..streams import clean_name
 from ..traces import Difference, Trace
 from ..values import Given
 from .markup import Part, data_of, element, hash_of, opened, script_of, section, text
 from .sections import (
-    components_section, connections_section, contents, outcome_section, run_section, text_section, units_section,
+    components_section, connections_section, contents, outcome_section, run_section, steps_section, text_section, units_section,
 )
 from .tables import MOST_DIFFERENCES, data_of_page, tolerance_words
 
@@ -29,6 +30,7 @@ HEADINGS = (
     ("plots", "Plots"),
     ("differences", "Differences"),
     ("rows", "Rows"),
+    ("steps", "Steps"),
     ("components", "Components"),
     ("units", "Units"),
     ("text", "Text"),
@@ -42,12 +44,14 @@ def page_of(
     tolerance: Union[Given, Mapping[str, Given]],
     names: Optional[Sequence[str]],
     labels: Tuple[str, str],
+    log: Optional[StepLog] = None,
 ) -> bytes:
     """The page as bytes. The same model and traces make the same page."""
     system = model.system
     found = [] if other is None else trace.diff(other, tolerance)
     traces = [(labels[0], trace), *([] if other is None else [(labels[1], other)])]
-    headings = [(anchor, heading) for anchor, heading in HEADINGS if other is not None or anchor != "differences"]
+    left_out = [anchor for anchor, given in (("differences", other), ("steps", log)) if given is None]
+    headings = [(anchor, heading) for anchor, heading in HEADINGS if anchor not in left_out]
     title = f"Report of {clean_name(model.name)}"
     body = [
         element("header", element("h1", text(title))),
@@ -59,6 +63,7 @@ def page_of(
         section("plots", "Plots", element("noscript", element("p", text(NO_SCRIPT)))),
         "" if other is None else differences_section(found, tolerance, labels),
         section("rows", "Rows"),
+        "" if log is None else steps_section(log),
         components_section(model, system),
         units_section(system),
         text_section(model),

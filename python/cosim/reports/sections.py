@@ -5,6 +5,7 @@ from ..canonical import Instance, Port, System, Unit
 from ..errors import title_of_fault
 from ..models import Model
 from ..outcomes import STOPPED, UNKNOWN, Outcome
+from ..steps import COLUMNS, StepLog
 from ..traces import Trace
 from .markup import Part, details, element, facts, lines, section, table, text
 from .picture import picture
@@ -23,6 +24,9 @@ NUMBERS = (
 REASONS = {STOPPED: ": the rows were read no further", UNKNOWN: ": the rows are those of a file"}
 
 NO_COMPONENT = "The model has no component."
+
+# The most lines of a step log that a page lists.
+MOST_STEPS = 2_000
 
 
 def outcome_facts(outcome: Outcome, trace: Trace) -> List[Tuple[str, str]]:
@@ -69,6 +73,18 @@ def connections_section(system: System) -> Part:
         return section("connections", "Connections", shown, element("p", "There is no connection."))
     listed = details("The same as a table", table(("output", "input", "type"), rows))
     return section("connections", "Connections", shown, listed)
+
+
+def steps_section(log: StepLog) -> Part:
+    """The steps by their causes, and the lines of the log."""
+    rows = [
+        [text(each.cause), text(f"{each.steps:,}"), *(text(seconds(time, log.resolution)) for time in (each.seconds, each.shortest, each.longest))]
+        for each in log.causes
+    ]
+    causes = table(("what limits the step", "steps", "seconds in all", "shortest", "longest"), rows)
+    listed = [[text(field) for field in record] for record in log.records[:MOST_STEPS]]
+    summary = f"The step log: {len(log):,} lines" + (f", of which the first {MOST_STEPS:,} are listed" if len(log) > MOST_STEPS else "")
+    return section("steps", "Steps", causes, details(summary, table(COLUMNS, listed)))
 
 
 def components_section(model: Model, system: System) -> Part:
