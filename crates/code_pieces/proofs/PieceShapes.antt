@@ -1,6 +1,5 @@
 -- What a well-made piece means, as facts by cases.
-use Rattle.std.proofs.Common.{◌≡◌, ℕ, ◌≤◌, Bool, true, false, ◌&&◌, refl, arith}
-use Rattle.std.proofs.lemmas.Bool.Decides.{nat_tests}
+use Rattle.std.proofs.Common.{◌≡◌, ◌≤◌, Bool, true, false, ◌&&◌, refl}
 use Rattle.std.specs.Prelude.{nat_le, IsTrue, ⊤}
 use Rattle.unit_vm.specs.declared.instruction.Flow.{Flow}
 use Rattle.unit_vm.specs.declared.instruction.Flow.TheVariants as flow

@@ -1,7 +1,6 @@
 //! Code of expressions.
 ghost use Rattle.std.specs.Prelude.{◌≡◌, ◌++◌, ◌∷◌, [], IfOk};
 ghost use Rattle.std.specs.Option.{option_to_list};
-ghost use Rattle.fixed_words.specs.Types.{kind_of};
 ghost use Rattle.code_units.specs.Expressions.{code_of, name_code, truth_code, place_code, unary_code, unary_kind_of, binary_code, binary_kind_of};
 ghost use Rattle.code_units.specs.Scopes.{named};
 ghost use Rattle.code_pieces.specs.Pieces.{flat, choice_code};

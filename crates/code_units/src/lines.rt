@@ -1,9 +1,8 @@
 //! Code of step lines.
 ghost use Rattle.std.specs.Prelude.{◌≡◌, ◌++◌, ◌∷◌, [], IfOk};
-ghost use Rattle.std.specs.Option.{option_map};
 ghost use Rattle.code_units.specs.Scopes.{named};
 ghost use Rattle.code_units.specs.StepLines.{target_coded, value_coded, line_code, lines_code};
-ghost use Rattle.code_pieces.specs.Pieces.{flat, choice_code, when_code};
+ghost use Rattle.code_pieces.specs.Pieces.{flat};
 ghost use Rattle.unit_vm.specs.declared.instruction.Instruction.TheVariants.{Accept};
 
 use crate::expressions::value_code;

@@ -1,6 +1,5 @@
 //! The program of a unit.
-ghost use Rattle.std.specs.Prelude.{◌≡◌, ◌≤◌, ◌++◌, ◌∷◌, [], map, length, IfOk};
-ghost use Rattle.std.specs.Option.{option_map};
+ghost use Rattle.std.specs.Prelude.{◌≡◌, ◌≤◌, map, length, IfOk};
 ghost use Rattle.code_units.specs.UnitPrograms.{output_code, limit_code, step_piece, program_in, program_of};
 ghost use Rattle.code_pieces.specs.Pieces.{part_code};
 ghost use Rattle.unit_vm.specs.declared.instruction.Instruction.TheVariants.{Done};

@@ -1,15 +1,15 @@
 -- The line of a refusal is within the longest text that is read: it has at most so many lines.
-use Rattle.std.proofs.Common.{◌≡◌, ◌⊎◌, ℕ, zero, suc, ◌+◌, ◌-◌, ◌<◌, ◌≤◌, Bool, true, false, cond, List, [], ◌∷◌, ◌++◌, map, length, take, drop, length-append, Option, Some, None}
-use Rattle.std.proofs.Common.{inl, inr, refl, sym, ap, subst, ◌∙◌, arith}
+use Rattle.std.proofs.Common.{◌≡◌, ℕ, zero, suc, ◌+◌, ◌-◌, ◌≤◌, Bool, true, false, cond, List, [], ◌∷◌, ◌++◌, map, length, take, drop, length-append, Some}
+use Rattle.std.proofs.Common.{inl, inr, sym, ap, subst, arith}
 use Rattle.std.proofs.lemmas.List.{length-map}
 use Rattle.std.specs.Prelude.{slice_get, ◌==◌}
 use Rattle.std.specs.List.{AllByRecursion, enumerate_from, filter, flat_map, fold}
 use Rattle.list_laws.proofs.Lists.{each_append}
 use Rattle.list_laws.proofs.Members.{each_has, has_at}
 use Rattle.model_rules.specs.Limits.{text_limit}
-use Rattle.text_accept.specs.Accepting.{IsRefusedAt, IsSystemRefusedAt, source_line}
+use Rattle.text_accept.specs.Accepting.{IsRefusedAt, IsSystemRefusedAt}
 use Rattle.unit_tree.specs.Lines.{lines_of, size_of, source_lines, without_return}
-use Rattle.unit_tree.specs.Parts.{Part, UnitPart, HasInstance, HasUnit, Connects, Stop, Longest, Zero, Rows, Samples, part_forms, unit_part_forms}
+use Rattle.unit_tree.specs.Parts.{Part, HasInstance, HasUnit, Connects, Stop, Longest, Zero, Rows, Samples, part_forms, unit_part_forms}
 use Rattle.unit_tree.specs.SourceLines.{ReadsFrom, by_rank, each_ranked, in_canonical_order, numbers_of, of_rank, part_lines_in_order, part_rank, unit_lines_in_order, unit_part_rank}
 use Rattle.unit_tree.specs.Texts.{Breaks, IsRefused}
 use Rattle.unit_tree.specs.declared.system.System.{System}

@@ -1,24 +1,22 @@
 -- A generated system is printable.
 use Rattle.std.proofs.Common.{◌≡◌, ℕ, zero, suc, ◌+◌, ◌-◌, ◌*◌, ◌^◌, ◌<◌, ◌≤◌, true, false, List, []}
-use Rattle.std.proofs.Common.{◌∷◌, ◌++◌, append_assoc, map, length, take, drop, replicate}
+use Rattle.std.proofs.Common.{◌∷◌, ◌++◌, append_assoc, map, length}
 use Rattle.std.proofs.Common.{pos, refl, ap, sym, subst, ◌∙◌, arith}
-use Rattle.std.specs.Prelude.{codes, nat_le}
+use Rattle.std.specs.Prelude.{codes}
 use Rattle.std.specs.Fmt.{decimal, digits}
-use Rattle.std.specs.List.{AllByRecursion, flat_map, list_all, list_any, range_with_len}
-use Rattle.std.proofs.lemmas.Bool.{and_from}
+use Rattle.std.specs.List.{AllByRecursion, flat_map, range_with_len}
 use Rattle.std.proofs.lemmas.Bool.Decides.{nat_tests}
 use Rattle.std.proofs.lemmas.Fmt.{length-decimal-le}
-use Rattle.std.proofs.lemmas.List.{length-append, length-map, length-take-le, length-drop, length-replicate}
+use Rattle.std.proofs.lemmas.List.{length-append, length-map}
 use Rattle.std.proofs.lemmas.List.FromFn.{length-range_with_len}
-use Rattle.fixed_words.specs.Digits.{pointed}
-use Rattle.fixed_words.specs.Texts.{padded, fixed_text}
+use Rattle.fixed_words.specs.Texts.{fixed_text}
 use Rattle.fixed_words.specs.Types.{is_word_of}
 use Rattle.fixed_words.specs.declared.types.Ty.TheVariants.{Int64}
-use Rattle.unit_tree.specs.Canonical.{canonical_forms, form_tokens, line_text, unit_parts}
-use Rattle.unit_tree.specs.LineForms.{is_of_version_2, tail_of}
+use Rattle.unit_tree.specs.Canonical.{canonical_forms, form_tokens, unit_parts}
+use Rattle.unit_tree.specs.LineForms.{tail_of}
 use Rattle.unit_tree.specs.Parts as parts
 use Rattle.unit_tree.specs.Parts.{Part, part_forms}
-use Rattle.unit_tree.specs.Printable.{IsInRange, IsPrintable, is_event_port, is_writable, names_on}
+use Rattle.unit_tree.specs.Printable.{IsInRange, IsPrintable, is_writable, names_on}
 use Rattle.unit_tree.specs.Tokens.{IsName, IsWord}
 use Rattle.unit_tree.specs.declared.expr.Expr.{the_lemmas as expr_lemmas}
 use Rattle.unit_tree.specs.declared.line.Line.{the_lemmas as line_lemmas}
@@ -33,7 +31,7 @@ use Rattle.text_laws.proofs.PrintedLines.{Prints, all_short, all_writable, fixed
 use Rattle.text_laws.proofs.ShortestLines.{unsigned_tokens}
 use Rattle.text_laws.proofs.TokenWidths.{tokens_within, width}
 use Rattle.list_laws.proofs.Lists.{each_append, each_so}
-use Rattle.list_laws.proofs.Truths.{le_asked, not_negative}
+use Rattle.list_laws.proofs.Truths.{not_negative}
 use Rattle.cosim_gen.specs.Generated.{CanGenerate, number, param_k, state_n, input_u, output_y, source_next, mixer_next, source_unit, mixer_unit, k_in, name_in}
 use Rattle.cosim_gen.specs.Generated.{instance_in, source_of, wire_to, later_places, generated}
 use Rattle.cosim_gen.proofs.Names.{is_name}

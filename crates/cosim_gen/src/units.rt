@@ -1,5 +1,5 @@
 //! The two units of a generated system.
-ghost use Rattle.std.specs.Prelude.{◌≡◌, [], ◌∷◌, codes, pos, IfOk};
+ghost use Rattle.std.specs.Prelude.{◌≡◌, [], ◌∷◌, codes, IfOk};
 ghost use Rattle.cosim_gen.specs.Generated.{number, param_k, state_n, input_u, output_y, n_times, plus, in_thousand, source_next, mixer_next, unit_with, source_unit, mixer_unit};
 
 use fixed_words::{Boxed, List, Literal, NoMemory, Ty};

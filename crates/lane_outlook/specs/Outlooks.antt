@@ -1,5 +1,5 @@
 -- What is known of an instance at the run's stand, and for how many rows its inputs are guessed.
-use Rattle.std.specs.Prelude.{◌≡◌, ◌*◌, ◌/◌, ℕ, List, length, min, Some, slice_get}
+use Rattle.std.specs.Prelude.{◌≡◌, ◌*◌, ◌/◌, ℕ, length, min, Some, slice_get}
 use Rattle.guess_board.specs.Guesses.{Seen}
 use Rattle.trace_core.specs.Runs.{RunState, step_length}
 use Rattle.trace_plan.specs.Plans.{highest_words, lowest_words}

@@ -1,6 +1,6 @@
 //! Publishing lanes with a row, a state and a line that are given. It is tested here whether they fit, as the contract of a lane
 //! requires.
-ghost use Rattle.std.specs.Prelude.{◌≡◌, ◌≤◌, ◌+◌, ◌^◌, length, true};
+ghost use Rattle.std.specs.Prelude.{◌≡◌, ◌+◌, true};
 ghost use Rattle.std.specs.List.{AllByRecursion};
 ghost use Rattle.guess_board.specs.Cells.{FitsCell, FitsLine, RisesFrom};
 

@@ -1,6 +1,6 @@
 -- Memory for the states of all instances.
-use Rattle.std.proofs.Common.{◌≡◌, ◌∙◌, ℕ, ◌<◌, ◌≤◌, ℤ, List, [], ◌++◌, length, map, take, get_or, set, Some, Vec, Global, sym, ap, subst, arith, append-nil}
-use Rattle.std.proofs.lemmas.List.{drop_all, map-set, take_all}
+use Rattle.std.proofs.Common.{◌≡◌, ◌∙◌, ℕ, ◌<◌, ℤ, List, [], length, map, get_or, set, Some, Vec, Global, sym, ap, subst}
+use Rattle.std.proofs.lemmas.List.{map-set}
 use Rattle.std.proofs.lemmas.Option.{same_Some, get_or_from_slice_get}
 use Rattle.std.specs.Prelude.{slice_get, slice_index_or}
 use Rattle.std.specs.Vec.{with_items}

@@ -1,7 +1,7 @@
 //! What a node knows of a row, and the facts that it made.
-ghost use Rattle.std.specs.Prelude.{◌≡◌, ◌≤◌, ◌<◌, ◌+◌, ◌++◌, ◌∷◌, [], true, length, map, is_none, slice_set, vec_capacity, Some, OnOk, OnErr};
+ghost use Rattle.std.specs.Prelude.{◌≡◌, ◌≤◌, ◌<◌, ◌+◌, ◌++◌, ◌∷◌, [], true, length, map, is_none, slice_set, vec_capacity, Some, OnOk};
 ghost use Rattle.link_laws.specs.Boards.{entry};
-ghost use Rattle.link_core.specs.Noted.{making_in, lacking, empties, HasRoom, AreNotes, forgotten};
+ghost use Rattle.link_core.specs.Noted.{making_in, empties, HasRoom, AreNotes, forgotten};
 ghost use Rattle.unit_tree.specs.Compositions.{Composition};
 
 use fixed_words::NoMemory;

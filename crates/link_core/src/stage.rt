@@ -1,10 +1,10 @@
 //! What a row requires next.
-ghost use Rattle.std.specs.Prelude.{◌≡◌, ◌≤◌, ◌<◌, ◌+◌, ◌^◌, ℕ, [], true, min, map, zip, length, is_some, ◌&&◌, ◌==◌, if◌then◌else◌, Some, IfSome};
+ghost use Rattle.std.specs.Prelude.{◌≡◌, ◌≤◌, ◌<◌, ◌+◌, ◌^◌, true, min, map, zip, length, is_some, ◌&&◌, ◌==◌, if◌then◌else◌, Some};
 ghost use Rattle.std.specs.List.{list_all, filter_map};
 ghost use Rattle.link_laws.specs.Making.{names_of};
 ghost use Rattle.link_core.specs.Noted.{making_in, AreNotes, place_of, position_at, least_with, redo_end_in, reply_in, step_end_in, AllowsStep};
-ghost use Rattle.link_laws.specs.Stages.{stage_of, stage_of_limits, stage_of_trial, stage_of_redo, stage_by, stage_on, least_in};
-ghost use Rattle.link_laws.specs.Stages.{word_end, max_by, limit_in, steps_in, step_in, are_answered, is_answered, over_or};
+ghost use Rattle.link_laws.specs.Stages.{stage_of, stage_of_limits, stage_of_trial, stage_of_redo, stage_on};
+ghost use Rattle.link_laws.specs.Stages.{word_end, max_by, limit_in, steps_in, are_answered, is_answered};
 ghost use Rattle.unit_tree.specs.Negotiation.{is_held, limit_told, proposal_of, least_of, reply_at};
 ghost use Rattle.unit_tree.specs.Ports.{first_some};
 ghost use Rattle.unit_tree.specs.Routes.{routes_of};

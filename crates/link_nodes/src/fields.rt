@@ -1,4 +1,4 @@
-ghost use Rattle.std.specs.Prelude.{◌≡◌, ◌<◌, ◌^◌};
+ghost use Rattle.std.specs.Prelude.{◌≡◌};
 ghost use Rattle.link_nodes.specs.Decoding.{fault_tagged, seen_told, asked_told, said_told, fact_told, HasLengths};
 ghost use Rattle.link_nodes.specs.Wire.{tag_of, fields_of};
 

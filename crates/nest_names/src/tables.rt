@@ -1,6 +1,5 @@
 //! Tables of names: the first place of each name, and whether it occurs again.
 ghost use Rattle.std.specs.Prelude.{◌≡◌, ◌||◌, ◌&&◌, ℕ, List, Some, None, OnOk, IfOk, map, bytes_eq, if◌then◌else◌, find, is_some, slice_get};
-ghost use Rattle.std.specs.List.{list_any};
 ghost use Rattle.std.specs.Option.{option_map, option_or};
 ghost use Rattle.unit_names.specs.Found.{found_in, first_place};
 ghost use Rattle.unit_tree.specs.Names.{is_among};

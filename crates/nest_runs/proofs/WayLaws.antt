@@ -2,7 +2,7 @@
 use Rattle.std.proofs.Common.{◌≡◌, ℕ, zero, suc, ◌+◌, ◌≤◌, Bool, true, false, List, [], ◌∷◌, ◌++◌, map, Option, Some, None, inl, inr, refl, sym, ap}
 use Rattle.std.proofs.Common.{subst}
 use Rattle.std.proofs.Common.{◌∙◌, ◌⊎◌, arith, cond}
-use Rattle.std.specs.Prelude.{is_none, ◌==◌, slice_get}
+use Rattle.std.specs.Prelude.{is_none, slice_get}
 use Rattle.std.specs.List.{filter, flat_map, list_all, list_any}
 use Rattle.std.specs.Option.{option_and_then, option_map, unwrap_or}
 use Rattle.std.specs.Str.{bytes_eq}
@@ -16,7 +16,7 @@ use Rattle.nest_names.specs.Flattening.{same_spot, distinct, reach, group_place,
 use Rattle.nest_names.specs.declared.scope.GroupScope.{GroupScope}
 use Rattle.nest_names.specs.declared.scope.Spot.{Spot}
 use Rattle.nest_names.proofs.FlatLaws.{expand_group, step_some}
-use Rattle.nest_names.proofs.SameSpots.{spot_is, spot_self}
+use Rattle.nest_names.proofs.SameSpots.{spot_is}
 use Rattle.language_laws.proofs.NameLaws.{same_bytes, bytes_of}
 use Rattle.language_laws.proofs.PlainNames.{has_flat, map_has, flat_has}
 use Rattle.list_laws.proofs.Members.{Has, has_either, has_map}

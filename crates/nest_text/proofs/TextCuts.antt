@@ -3,12 +3,10 @@ use Rattle.std.proofs.Common.{◌≡◌, ℕ, ◌+◌, ◌-◌, ◌≤◌, ◌<�
 use Rattle.std.proofs.Common.{refl, sym, ap, ap₂, subst, ◌∙◌, arith, append_assoc, append-nil, length-append}
 use Rattle.std.specs.Prelude.{◌⊎◌, ◌==◌, not, ◌&&◌, ◌||◌, if◌then◌else◌, IsTrue}
 use Rattle.std.specs.List.{AllByRecursion, AllZip, enumerate_from, flat_map, list_all, onto_first}
-use Rattle.std.proofs.lemmas.Bool.{and_parts}
 use Rattle.std.proofs.lemmas.Grind.{flat_map-append}
 use Rattle.std.proofs.lemmas.List.{map-append}
 use Rattle.std.proofs.Math.Seq.{take-append_seam}
 use Rattle.list_laws.proofs.Lists.{any_behind, front_of}
-use Rattle.list_laws.proofs.Truths.{not_true}
 use Rattle.text_laws.proofs.WholeLines.{line_more}
 use Rattle.unit_tree.specs.Lines.{lines_of, without_return}
 use Rattle.nest_text.specs.NestLines.{AreLines, IsKind, IsLine, SourceLine}

@@ -1,9 +1,9 @@
 //! Groups of a nested text, collected and read in turn.
-ghost use Rattle.std.specs.Prelude.{◌≡◌, ◌<◌, ◌≤◌, ◌+◌, ◌∷◌, ◌++◌, [], codes, length, IfOk, OnOk};
+ghost use Rattle.std.specs.Prelude.{◌≡◌, ◌<◌, ◌≤◌, ◌+◌, ◌∷◌, ◌++◌, [], length, IfOk, OnOk};
 ghost use Rattle.unit_tree.specs.Lines.{lines_of};
 ghost use Rattle.model_rules.specs.Limits.{text_limit};
 ghost use Rattle.nest_text.specs.Nests.{GroupLines, groups_of};
-ghost use Rattle.nest_text.specs.Reading.{AddsLine, Gathers, GroupAnswers, GroupsAnswer, InsideAnswers, IsGathered, NextGroupIs, OfLines, SaysInside};
+ghost use Rattle.nest_text.specs.Reading.{AddsLine, Gathers, GroupAnswers, GroupsAnswer, InsideAnswers, IsGathered, NextGroupIs, OfLines};
 
 use crate::fault::NestFault;
 use crate::kind::{LineKind, kind_of_line};

@@ -1,5 +1,5 @@
 //! A nested text split at its line `main`.
-ghost use Rattle.std.specs.Prelude.{◌≡◌, ◌≤◌, ◌+◌, length, true, IfOk, IfSome};
+ghost use Rattle.std.specs.Prelude.{◌≡◌, ◌≤◌, ◌+◌, length, IfOk, IfSome};
 ghost use Rattle.model_rules.specs.Limits.{text_limit};
 ghost use Rattle.nest_text.specs.NestLines.{IsKind};
 ghost use Rattle.nest_text.specs.Nests.{is_main};

@@ -8,7 +8,6 @@ use Rattle.std.proofs.lemmas.Bool.{and_parts}
 use Rattle.std.proofs.lemmas.Grind.{flat_map-append}
 use Rattle.std.proofs.lemmas.List.Folds.{list_any-append}
 use Rattle.nest_text.specs.declared.nest.Nest.{Nest}
-use Rattle.unit_tree.specs.declared.system.PortName.{PortName}
 use Rattle.nest_names.specs.Flattening.{distinct, expand, ins_in, is_component, place_at, reach, same_spot, spot_in, inside}
 use Rattle.nest_ways.specs.Reaching.{IsIn, SameKept, all_ends}
 use Rattle.nest_names.specs.declared.scope.GroupScope.{GroupScope}

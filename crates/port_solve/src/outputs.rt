@@ -34,6 +34,7 @@ fn are_known(known: &[bool], places: &[u32]) -> bool
 }
 
 /// Computes an output: its word or its fault. `None` where an output that it needs is not known.
+#[inline]
 pub(crate) fn outcome<G: Gets>(
     gets: &mut G,
     route: &Route,

@@ -1,6 +1,5 @@
-ghost use Rattle.std.specs.Prelude.{◌≡◌, ◌<◌, ℕ, [], true, length, slice_get, OnOk, Some, None, IfSome};
+ghost use Rattle.std.specs.Prelude.{◌≡◌, ◌<◌, [], true, length, slice_get, OnOk, Some, None, IfSome};
 ghost use Rattle.std.specs.List.{list_all};
-ghost use Rattle.std.specs.Option.{option_map};
 ghost use Rattle.port_solve.specs.Solved.{HaveStates, HaveInputs, HaveTheirWords, ports_told, ending_told};
 ghost use Rattle.port_solve.specs.Sound.{IsSound};
 ghost use Rattle.port_solve.specs.Steps.{IsFirst};

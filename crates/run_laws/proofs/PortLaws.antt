@@ -1,5 +1,5 @@
 -- Names among others, and the output that a port names.
-use Rattle.std.proofs.Common.{◌≡◌, ℕ, Bool, true, false, cond, List, [], ◌∷◌, map, Option, Some, None, inl, inr, refl, ap, sym, subst, ◌∙◌, ◌⊎◌}
+use Rattle.std.proofs.Common.{◌≡◌, ℕ, Bool, true, false, cond, List, [], ◌∷◌, map, Option, Some, None, inl, inr, refl, ap, sym, subst, ◌∙◌}
 use Rattle.std.proofs.lemmas.Bool.{and_parts, or_right, or_cases}
 use Rattle.std.specs.Prelude.{is_none, ◌||◌}
 use Rattle.std.specs.List.{list_any, find}

@@ -1,7 +1,6 @@
 -- The parts of bytes between spaces, and the states that they spell.
 use Rattle.std.proofs.Common.{◌≡◌, ℕ, ◌+◌, ◌==◌, Bool, true, false, cond, not, ℤ, List, [], ◌∷◌, ◌++◌, map, length, take, drop, Option, Some, None}
 use Rattle.std.proofs.Common.{refl, sym, ap, ap₂, subst, ◌∙◌, arith, decimal, one-add, append-nil}
-use Rattle.std.specs.Prelude.{◌&&◌, nat_lt}
 use Rattle.std.specs.Fmt.{signed_decimal}
 use Rattle.std.specs.List.{AllByRecursion, join_with_byte, list_all, onto_first, prefix_len}
 use Rattle.std.specs.Option.{option_and_then, option_map}
@@ -14,7 +13,7 @@ use Rattle.unit_print.proofs.LineTests.{is_word_asked, is_word_told}
 use Rattle.unit_print.specs.Fitting.{is_word}
 use Rattle.fixed_words.specs.Types.{is_word_of}
 use Rattle.fixed_words.specs.declared.types.Ty.TheVariants.{Int64}
-use Rattle.list_laws.proofs.Truths.{lt_asked, lt_told, not_true}
+use Rattle.list_laws.proofs.Truths.{not_true}
 use Rattle.save_point.specs.Reading.{IsNumberText, IsPointText, IsWordText, behind_space, first_part, is_inside, other_parts, parts_in, parts_of, state_in, with_word, word_in, words_in}
 use Rattle.save_point.specs.SavedTexts.{IsState, NamedState, spaced_words}
 use Rattle.save_point.proofs.NumberTexts.{number_inside, number_once, number_told, word_asked, word_inside, word_tells}

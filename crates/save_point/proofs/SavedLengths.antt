@@ -1,8 +1,8 @@
 -- The lines of a position of a judged system are short: at most 64 states, each of a name and at most 64 words.
-use Rattle.std.proofs.Common.{◌≡◌, ℕ, suc, ◌+◌, ◌*◌, ◌^◌, ◌<◌, ◌≤◌, true, ℤ, pos, List, [], ◌∷◌, ◌++◌, map, zip, length, Option, Some, None, refl, arith}
+use Rattle.std.proofs.Common.{◌≡◌, ℕ, ◌+◌, ◌*◌, ◌^◌, ◌<◌, ◌≤◌, true, ℤ, pos, List, [], ◌∷◌, ◌++◌, map, length, Option, Some, None, refl, arith}
 use Rattle.std.specs.Prelude.{codes, decimal, IfSome}
 use Rattle.std.specs.Fmt.{signed_decimal}
-use Rattle.std.specs.List.{AllByRecursion, AllZip, cons_option, filter_map, flat_map}
+use Rattle.std.specs.List.{AllByRecursion, AllZip, cons_option, filter_map}
 use Rattle.std.proofs.lemmas.Fmt.{length-decimal-le, length_signed_le}
 use Rattle.std.proofs.lemmas.List.{length-append, length-map}
 use Rattle.std.proofs.lemmas.Slice.Zip.{AllZip-long}
@@ -10,7 +10,7 @@ use Rattle.fixed_words.specs.Types.{is_word_of}
 use Rattle.fixed_words.specs.declared.types.Ty.TheVariants.{Int64}
 use Rattle.list_laws.proofs.Members.{Has, has_place}
 use Rattle.run_laws.proofs.PlainOrders.{named_has}
-use Rattle.save_point.specs.SavedTexts.{AreNumbers, IsState, NamedState, ended, point_line, row_line, saved_lines, spaced_words, state_line, states_of, title_line}
+use Rattle.save_point.specs.SavedTexts.{IsState, NamedState, ended, point_line, row_line, saved_lines, spaced_words, state_line, states_of, title_line}
 use Rattle.super_time.specs.declared.point.Point.{Point}
 use Rattle.text_laws.proofs.WordTexts.{word_bound}
 use Rattle.unit_exec.proofs.CheckedUnits.{checked_units}

@@ -1,5 +1,5 @@
 -- How many lines a saved text has before the text of its system.
-use Rattle.std.proofs.Common.{◌≡◌, ℕ, ◌+◌, ◌≤◌, List, length, ap, ◌∙◌, arith}
+use Rattle.std.proofs.Common.{ℕ, ◌+◌, ◌≤◌, List, length, ap, ◌∙◌, arith}
 use Rattle.std.proofs.lemmas.List.{length-map}
 use Rattle.save_point.proofs.LineLaws.{begins_within}
 use Rattle.save_point.specs.SavedTexts.{IsSaved, NamedState, saved_lines, state_line}

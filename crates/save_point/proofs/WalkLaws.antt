@@ -3,7 +3,7 @@ use Rattle.std.proofs.Common.{◌≡◌, ℕ, zero, suc, ◌+◌, ◌-◌, ◌*�
 use Rattle.std.proofs.Common.{refl, sym, ap, subst, ◌∙◌, arith, append_assoc}
 use Rattle.trace_core.proofs.FillLaws.{not_ended}
 use Rattle.run_laws.proofs.Rests.{next_number}
-use Rattle.run_laws.proofs.RunTraces.{Rest, goes_to, left, rest_of, same_rests}
+use Rattle.run_laws.proofs.RunTraces.{Rest, left, rest_of, same_rests}
 use Rattle.run_laws.proofs.PositionLaws.{positions_keep}
 use Rattle.save_point.specs.SavedTexts.{saved_text}
 use Rattle.save_point.specs.Saving.{HasNoPosition, PutsPosition}
@@ -17,7 +17,7 @@ use Rattle.trace_plan.specs.Plans.{Planned}
 use Rattle.trace_rows.specs.Passing.{AreStepsThere}
 use Rattle.unit_tree.specs.Compositions.{Composition}
 use Rattle.unit_tree.specs.Successor.{Position, first_position, ends, successor}
-use Rattle.unit_tree.specs.Trace.{Stand, Follows, Goes, GoesOnFrom, IsPositionOf, IsStand, IsTrace, Reaches}
+use Rattle.unit_tree.specs.Trace.{Stand, Follows, GoesOnFrom, IsPositionOf, IsStand, IsTrace, Reaches}
 use Rattle.unit_tree.specs.declared.ending.Ending.{Ending}
 
 -- ---- Phases that are still to come

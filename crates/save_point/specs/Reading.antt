@@ -1,13 +1,12 @@
 -- How saved texts are read: numbers, words and single lines.
-use Rattle.std.specs.Prelude.{◌≡◌, ℕ, ◌≤◌, ◌==◌, Bool, true, false, ◌&&◌, not, nat_lt, ℤ, List, [], ◌∷◌, ◌++◌, length, take, drop, decimal, if◌then◌else◌}
+use Rattle.std.specs.Prelude.{◌≡◌, ℕ, ◌≤◌, ◌==◌, Bool, true, false, ◌&&◌, not, ℤ, List, [], ◌∷◌, ◌++◌, length, take, drop, decimal, if◌then◌else◌}
 use Rattle.std.specs.Prelude.{Option, Some, None, Result, Ok, Err, ⊤}
 use Rattle.std.specs.Fmt.{signed_decimal}
-use Rattle.std.specs.List.{list_all, prefix_len, slice_split}
+use Rattle.std.specs.List.{prefix_len, slice_split}
 use Rattle.std.specs.Option.{option_and_then, option_map}
 use Rattle.std.specs.Str.{bytes_eq}
 use Rattle.std.specs.Str.Parse.{signed_digits_value}
 use Rattle.unit_print.specs.Fitting.{is_word}
-use Rattle.model_rules.specs.Limits.{name_limit}
 use Rattle.fixed_words.specs.Types.{is_word_of}
 use Rattle.fixed_words.specs.declared.types.Ty.TheVariants.{Int64}
 use Rattle.save_point.specs.SavedTexts.{BreaksAtLine, IsSaved, IsWithin, NamedState, number_limit}
@@ -17,7 +16,6 @@ use Rattle.save_point.specs.declared.reading.Saved.{Saved}
 use Rattle.super_time.specs.declared.point.Point.{Point}
 use Rattle.text_tokens.specs.declared.fault.Unread.{Unread}
 use Rattle.text_tokens.specs.declared.fault.Unread.TheVariants as unread
-use Rattle.unit_tree.specs.Tokens.{is_letter, is_word_byte}
 use Rattle.unit_tree.specs.declared.system.Instance.{Instance}
 
 -- The bytes are the text of a number within the bound of saved texts; and the text of a word.

@@ -1,5 +1,5 @@
 //! Reading of saved texts.
-ghost use Rattle.std.specs.Prelude.{◌≡◌, ◌∷◌, [], ◌++◌, length, IfOk, OnOk, Err, None};
+ghost use Rattle.std.specs.Prelude.{◌≡◌, [], IfOk, OnOk, Err, None};
 ghost use Rattle.std.specs.Option.{option_map};
 ghost use Rattle.save_point.specs.Reading.{PutsState, PutsWords, ReadsSaved, fault_at, parts_in, parts_of, state_in, words_in};
 ghost use Rattle.save_point.specs.SavedTexts.{AreNumbers, BeginsWithLines, saved_lines};

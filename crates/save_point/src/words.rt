@@ -5,7 +5,7 @@ ghost use Rattle.std.specs.List.{prefix_len};
 ghost use Rattle.std.specs.Option.{option_map};
 ghost use Rattle.fixed_words.specs.Types.{is_word_of};
 ghost use Rattle.fixed_words.specs.declared.types.Ty.TheVariants.{Int64};
-ghost use Rattle.save_point.specs.Reading.{IsNumberText, IsWordText, first_part, is_inside, other_parts, word_in};
+ghost use Rattle.save_point.specs.Reading.{IsNumberText, first_part, is_inside, other_parts, word_in};
 ghost use Rattle.save_point.specs.SavedTexts.{number_limit};
 ghost use Rattle.text_tokens.specs.Results.{Tells};
 

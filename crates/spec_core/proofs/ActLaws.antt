@@ -1,6 +1,6 @@
 -- Events of a world: what each needs of the world's invariant.
 use Rattle.std.proofs.Common.{◌≡◌, ◌≢◌, ◌∙◌, ℕ, zero, suc, ◌+◌, ◌==◌, ◌<◌, ◌≤◌, Bool, true, false, List}
-use Rattle.std.proofs.Common.{[], ◌∷◌, length, Some, refl, sym, ap, subst, arith, inl, inr}
+use Rattle.std.proofs.Common.{[], ◌∷◌, length, Some, refl, sym, ap, subst, arith, inr}
 use Rattle.std.proofs.lemmas.Bool.{eqb-true, eqb-false}
 use Rattle.std.proofs.lemmas.Option.{same_Some, slice_get_within}
 use Rattle.std.specs.Prelude.{slice_get}
@@ -9,10 +9,7 @@ use Rattle.spec_core.specs.Worlds.{IsWorld, WorldState}
 use Rattle.spec_core.specs.declared.event.Event.{Event}
 use Rattle.spec_core.specs.declared.event.Reply.TheVariants as reply
 use Rattle.trace_core.specs.Runs.{AreCellsFull, Cell, Empty, IsWanted, RunState, Stands, is_empty_cell}
-use Rattle.trace_core.specs.Settling.{Settled}
-use Rattle.trace_core.specs.declared.phase.Settle.{Settle}
 use Rattle.trace_core.specs.declared.phase.Settle.TheVariants as settle
-use Rattle.trace_core.specs.declared.phase.Phase.TheVariants.{Redo, Ended}
 use Rattle.trace_rows.proofs.Filling.{few_cells, full_cell}
 
 pub never : false ≡ true → ⊥

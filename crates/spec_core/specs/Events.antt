@@ -10,14 +10,11 @@ use Rattle.spec_core.specs.declared.event.Event.{Event}
 use Rattle.spec_core.specs.declared.event.Event.TheVariants as event
 use Rattle.spec_core.specs.declared.event.Reply.{Reply}
 use Rattle.spec_core.specs.declared.event.Reply.TheVariants as reply
-use Rattle.trace_core.specs.Runs.{AreCellsFull, IsComputed, IsKeyAt, IsWanted, RunState, is_ended, step_length, with_found}
+use Rattle.trace_core.specs.Runs.{AreCellsFull, IsComputed, IsKeyAt, IsWanted, RunState, is_ended, with_found}
 use Rattle.trace_core.specs.Settling.{Settled}
 use Rattle.trace_core.specs.declared.phase.Settle.{Settle}
-use Rattle.trace_plan.specs.Plans.{highest_words, lowest_words}
 use Rattle.unit_answers.specs.Answers.{Answered}
 use Rattle.unit_answers.specs.Keys.{StepKey}
-use Rattle.unit_tree.specs.Compositions.{Member}
-use Rattle.unit_tree.specs.Negotiation.{all_inputs}
 
 -- ---- Parts of a world that change
 

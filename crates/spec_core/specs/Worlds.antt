@@ -1,5 +1,5 @@
 -- Worlds: a run, the lanes of its instances, and the tickets in the hands of workers.
-use Rattle.std.specs.Prelude.{◌≡◌, ◌≤◌, ◌*◌, ◌/◌, ℕ, ◌==◌, min, List, [], length, map, replicate, if◌then◌else◌, Some, slice_get}
+use Rattle.std.specs.Prelude.{◌≡◌, ◌≤◌, ℕ, ◌==◌, List, [], length, map, replicate, if◌then◌else◌, Some, slice_get}
 use Rattle.std.specs.List.{AllByRecursion, sum_by}
 use Rattle.guess_board.specs.Events.{opened}
 use Rattle.guess_board.specs.Lanes.{FitsImage, IsLane, LaneState, TicketState}

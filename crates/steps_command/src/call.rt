@@ -1,6 +1,5 @@
 //! The call, in three steps: the plan of the text's system, the log of its run, and how this ended.
-ghost use Rattle.std.specs.Prelude.{◌≡◌, [], IfErr, IfOk, Some};
-ghost use Rattle.cosim_answers.specs.Serving.{IsAccepted, IsUnaccepted};
+ghost use Rattle.std.specs.Prelude.{Some};
 ghost use Rattle.cosim_call.specs.Calls.{Promises, stream, streams};
 ghost use Rattle.cosim_call.specs.Coming.{Comes, Serves};
 ghost use Rattle.command_line.specs.Words.{bytes_of};

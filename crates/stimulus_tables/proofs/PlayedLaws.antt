@@ -1,10 +1,8 @@
 -- The trace of the system of a table.
 use Rattle.std.proofs.Common.{◌≡◌, ℕ, suc, ◌+◌, ◌-◌, ◌*◌, ◌/◌, ◌<◌, ◌≤◌, ◌^◌, ◌==◌, min, Bool, true, false, ℤ, pos, List, [], ◌∷◌, ◌++◌, map, length, unsigned_abs, if◌then◌else◌, Option, Some, None, Result, Ok, Err, refl, sym, ap, ap₂, subst, ◌∙◌, append_assoc, take, arith}
 use Rattle.std.specs.Prelude.{nat_lt, nat_le, unwrap_or, ◌&&◌, not, zip}
-use Rattle.std.specs.Int.{is_negative}
 use Rattle.std.specs.List.{AllByRecursion, cons_option, filter, filter_map}
 use Rattle.std.proofs.lemmas.Bool.Decides.{nat_tests}
-use Rattle.std.proofs.lemmas.Int.{ints}
 use Rattle.std.proofs.lemmas.List.{take_all}
 use Rattle.fixed_words.specs.declared.types.Fault.{Fault}
 use Rattle.fixed_words.specs.declared.types.Fault.TheVariants as faults

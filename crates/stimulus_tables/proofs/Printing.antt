@@ -1,18 +1,17 @@
 -- The system of a table is printable.
-use Rattle.std.proofs.Common.{◌≡◌, ℕ, suc, ◌+◌, ◌-◌, ◌*◌, ◌^◌, ◌<◌, ◌≤◌, max, Bool, true, false, ℤ, pos, negsuc, unsigned_abs, List, [], ◌∷◌, ◌++◌, map, length, take, drop, replicate, None, refl, ap, sym, subst, ◌∙◌, arith}
-use Rattle.std.specs.Prelude.{codes, nat_eq, nat_le, ◌||◌, if◌then◌else◌}
+use Rattle.std.proofs.Common.{◌≡◌, ℕ, suc, ◌+◌, ◌-◌, ◌*◌, ◌^◌, ◌<◌, ◌≤◌, max, Bool, true, false, ℤ, pos, negsuc, unsigned_abs, List, [], ◌∷◌, ◌++◌, map, length, None, refl, ap, sym, subst, ◌∙◌, arith}
+use Rattle.std.specs.Prelude.{codes, nat_eq, ◌||◌, if◌then◌else◌}
 use Rattle.std.specs.Fmt.{decimal, digits}
 use Rattle.std.specs.Int.{is_negative}
-use Rattle.std.specs.List.{AllByRecursion, flat_map, fold, list_all, list_any}
+use Rattle.std.specs.List.{AllByRecursion, flat_map, fold, list_all}
 use Rattle.std.proofs.lemmas.Bool.{and_from, and_parts, or_right}
 use Rattle.std.proofs.lemmas.Bool.Decides.{nat_tests}
 use Rattle.std.proofs.lemmas.Fmt.{length-decimal-le}
 use Rattle.std.proofs.lemmas.Int.{ints}
 use Rattle.std.proofs.lemmas.List.Concat.{flat_map-append}
-use Rattle.std.proofs.lemmas.List.{length-append, length-take-le, length-drop, length-replicate}
+use Rattle.std.proofs.lemmas.List.{length-append}
 use Rattle.fixed_words.proofs.Numbers.{decimal_is}
-use Rattle.fixed_words.specs.Digits.{pointed}
-use Rattle.fixed_words.specs.Texts.{padded, fixed_text}
+use Rattle.fixed_words.specs.Texts.{fixed_text}
 use Rattle.fixed_words.specs.Types.{is_word_of}
 use Rattle.fixed_words.specs.declared.types.Literal.TheVariants as literal
 use Rattle.fixed_words.specs.declared.types.Ty.TheVariants.{Int64}
@@ -24,21 +23,20 @@ use Rattle.text_laws.proofs.SpelledBytes.{all_pass}
 use Rattle.text_laws.proofs.TokenWidths.{is_worded, tokens_within, width, width_most, word_short}
 use Rattle.text_tokens.specs.Scanning.{keyword_of}
 use Rattle.text_tokens.proofs.TableLemmas.{keyword_of_none}
-use Rattle.unit_tree.specs.Canonical.{canonical_forms, canonical_phrase, expression_tokens, form_tokens, line_text, node_phrase, optional, unit_parts}
-use Rattle.unit_tree.specs.LineForms.{front_tokens, is_of_version_2, node_speaks_of_events, speaks_of_events, tail_of}
+use Rattle.unit_tree.specs.Canonical.{canonical_forms, canonical_phrase, expression_tokens, form_tokens, node_phrase, optional, unit_parts}
+use Rattle.unit_tree.specs.LineForms.{front_tokens, node_speaks_of_events, speaks_of_events}
 use Rattle.unit_tree.proofs.FoldLemmas.{fold-Assign, fold-Choose, fold-If}
 use Rattle.unit_tree.specs.Names.{names_in, node_names}
 use Rattle.unit_tree.specs.Parts as parts
-use Rattle.unit_tree.specs.Parts.{Part, UnitPart, block_forms, joined, line_forms, part_forms, unit_part_forms}
+use Rattle.unit_tree.specs.Parts.{UnitPart, block_forms, joined, line_forms, unit_part_forms}
 use Rattle.unit_tree.specs.Phrases.{Phrase, nesting}
-use Rattle.unit_tree.specs.Printable.{IsInRange, IsPrintable, is_event_port, is_unsigned, is_writable, block_depth, line_depth, node_is_unsigned, step_depth, block_depth, names_on}
+use Rattle.unit_tree.specs.Printable.{IsInRange, IsPrintable, is_unsigned, block_depth, line_depth, node_is_unsigned, step_depth, block_depth, names_on}
 use Rattle.unit_tree.specs.Tokens.{IsName, IsWord, is_digit, is_letter, is_word_byte}
 use Rattle.unit_tree.specs.Values.{is_ranged, node_is_ranged}
 use Rattle.unit_tree.specs.declared.expr.Expr as expr
 use Rattle.unit_tree.specs.declared.expr.Expr.{Expr, the_lemmas as expr_lemmas}
 use Rattle.unit_tree.specs.declared.expr.UnOp.TheVariants as of
 use Rattle.unit_tree.specs.declared.line.Line as line
-use Rattle.unit_tree.specs.declared.line.Line.{Line}
 use Rattle.unit_tree.specs.declared.line_form.LineForm.{LineForm}
 use Rattle.unit_tree.specs.declared.line_form.LineForm.TheVariants as form
 use Rattle.unit_tree.specs.declared.system.System.{System}

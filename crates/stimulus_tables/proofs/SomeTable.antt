@@ -1,5 +1,5 @@
 -- Records are a table, or leave the form at some number.
-use Rattle.std.proofs.Common.{◌≡◌, ℕ, ◌+◌, ◌<◌, ◌≤◌, Bool, true, false, ℤ, List, [], ◌∷◌, ◌++◌, map, length, Option, Some, None, decimal, inl, inr, refl, ap, sym, subst, ◌∙◌, arith, append_assoc, append-nil}
+use Rattle.std.proofs.Common.{◌≡◌, ℕ, ◌+◌, ◌<◌, ◌≤◌, true, List, [], ◌∷◌, ◌++◌, map, length, Option, Some, None, decimal, inl, inr, refl, ap, sym, subst, ◌∙◌}
 use Rattle.std.specs.Prelude.{◌⊎◌, codes}
 use Rattle.std.specs.Fmt.{signed_decimal}
 use Rattle.std.specs.List.{AllByRecursion, list_all}
@@ -9,7 +9,7 @@ use Rattle.text_tokens.specs.Scanning.{keyword_of}
 use Rattle.text_tokens.proofs.TableLemmas.{keyword_of_is, keyword_of_none}
 use Rattle.unit_tree.specs.Tokens.{IsName, IsReserved, IsWord, is_letter, is_word_byte}
 use Rattle.unit_tree.specs.declared.token.Keyword.{Keyword}
-use Rattle.stimulus_tables.specs.Tables.{AllDiffer, AreNames, BeginsTable, Fields, IsHead, IsMoment, IsNextTime, IsTable, IsTaken, IsWritable, LeavesForm, MayFollow, fields_of_moment, state_name}
+use Rattle.stimulus_tables.specs.Tables.{AllDiffer, AreNames, BeginsTable, Fields, IsHead, IsNextTime, IsTable, IsTaken, IsWritable, LeavesForm, MayFollow, fields_of_moment, state_name}
 use Rattle.stimulus_tables.specs.declared.moment.Moment.{Moment}
 use Rattle.stimulus_tables.proofs.Deciding.{Decided, Found, at_most_decided, below_decided, both_decided, each_decided, is_decided, less_decided, not_decided, same_decided}
 use Rattle.stimulus_tables.proofs.OneMoment.{same_moment}

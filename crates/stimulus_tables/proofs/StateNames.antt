@@ -1,10 +1,9 @@
 -- The names of states differ.
-use Rattle.std.proofs.Common.{◌≡◌, ℕ, ◌<◌, Bool, true, false, List, drop, refl, ap, arith}
+use Rattle.std.proofs.Common.{◌≡◌, ℕ, ◌<◌, false, drop, ap, arith}
 use Rattle.std.specs.Str.{bytes_eq}
 use Rattle.std.proofs.lemmas.Fmt.{decimal_injective}
-use Rattle.language_laws.proofs.LineLaws.{same_name}
 use Rattle.list_laws.proofs.Truths.{never_true}
-use Rattle.language_laws.proofs.NameLaws.{bytes_of, same_bytes}
+use Rattle.language_laws.proofs.NameLaws.{same_bytes}
 use Rattle.stimulus_tables.specs.Tables.{state_name}
 
 one_name : (one other : ℕ) → one < 64 → other < 64 → state_name one ≡ state_name other → one ≡ other

@@ -1,5 +1,5 @@
 -- A table, one record after the other.
-use Rattle.std.proofs.Common.{◌≡◌, ℕ, List, [], ◌∷◌, ◌++◌, ap, sym, subst, ◌∙◌, append_assoc, append-nil}
+use Rattle.std.proofs.Common.{ℕ, List, [], ◌∷◌, ◌++◌, ap, sym, subst, ◌∙◌, append_assoc, append-nil}
 use Rattle.stimulus_tables.specs.Tables.{BeginsTable, Fields, Follow, MayFollow}
 use Rattle.stimulus_tables.specs.declared.moment.Moment.{Moment}
 

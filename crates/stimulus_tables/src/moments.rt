@@ -1,5 +1,5 @@
 //! The moments of a table.
-ghost use Rattle.std.specs.Prelude.{◌≡◌, ◌<◌, ◌∷◌, [], List, drop, length, IfOk};
+ghost use Rattle.std.specs.Prelude.{◌<◌, [], List, drop, IfOk};
 ghost use Rattle.csv.specs.Records.{fields_of};
 ghost use Rattle.stimulus_tables.specs.Tables.{IsNextTime, MayFollow};
 ghost use Rattle.stimulus_tables.specs.TableFields.{AreEntries, IsMomentOf};

@@ -1,5 +1,5 @@
 //! The system that plays a table.
-ghost use Rattle.std.specs.Prelude.{◌≡◌, ◌∷◌, [], List, IfOk};
+ghost use Rattle.std.specs.Prelude.{[], List};
 ghost use Rattle.std.specs.List.{AllByRecursion};
 ghost use Rattle.stimulus_tables.specs.Tables.{BeginsTable, IsWritable};
 ghost use Rattle.stimulus_tables.specs.Reading.{Gives};

@@ -1,7 +1,7 @@
 //! The system of a table, made as a tree.
-ghost use Rattle.std.specs.Prelude.{◌≡◌, ◌≤◌, ◌^◌, ◌++◌, ◌∷◌, [], unsigned_abs, pos, map, length, IfOk};
+ghost use Rattle.std.specs.Prelude.{◌≡◌, ◌≤◌, ◌^◌, ◌∷◌, [], unsigned_abs, pos, map, IfOk};
 ghost use Rattle.std.specs.List.{AllByRecursion};
-ghost use Rattle.stimulus_tables.specs.TableSystems.{is_before, is_reached, last_time, max_of_moments, number, output_with, outputs_from, sets_from, state_with, states_from, step_of_moments, table_instance, table_system, table_unit, takes, to_next, until};
+ghost use Rattle.stimulus_tables.specs.TableSystems.{is_before, is_reached, last_time, max_of_moments, number, outputs_from, sets_from, states_from, step_of_moments, table_instance, table_system, table_unit, takes, to_next, until};
 ghost use Rattle.stimulus_tables.specs.Tables.{IsWritable, state_name};
 
 use crate::moment::Moment;

@@ -3,7 +3,7 @@ ghost use Rattle.std.specs.Prelude.{◌≡◌, ◌∷◌, [], ◌≤◌, nat_lt,
 ghost use Rattle.std.specs.List.{flat_map, list_any};
 ghost use Rattle.sub_flat.specs.FlatReading.{IsKeptPrintable, MadeWithin, MakesLeaves, MakesParts, PutsWithin, leaves_inside, wire_between, wires_inside, with_parts};
 ghost use Rattle.nest_ways.specs.Walking.{AreWays};
-ghost use Rattle.nest_names.specs.Flattening.{flat_port, flat_wire, flat_wires, follow, leaves, levels, named_in, reach, top, wires_of};
+ghost use Rattle.nest_names.specs.Flattening.{flat_port, flat_wire, flat_wires, follow, leaves, levels, named_in, top, wires_of};
 ghost use Rattle.model_rules.specs.Limits.{connection_limit, instance_limit, name_limit};
 
 use crate::fault::Unflat;

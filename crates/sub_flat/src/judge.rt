@@ -1,5 +1,5 @@
 //! The rules of groups.
-ghost use Rattle.std.specs.Prelude.{◌≡◌, ℕ, ◌↔◌, ◌≤◌, ◌<◌, IfOk, IsTrue, length, slice_get, if◌then◌else◌, Some};
+ghost use Rattle.std.specs.Prelude.{◌≡◌, ◌↔◌, ◌<◌, IfOk, IsTrue, length, if◌then◌else◌, Some};
 ghost use Rattle.sub_flat.specs.FlatReading.{IsLeast, JudgesLeast, JudgesNest, MissesAt, Refuses, is_less, rule_number, rule_of};
 ghost use Rattle.sub_flat.specs.NestRules.{AtGroup, BreaksGroup};
 ghost use Rattle.sub_flat.specs.Searching.{IsNesting};

@@ -1,5 +1,5 @@
 -- The line at which the code names a cycle.
-use Rattle.std.proofs.Common.{◌≡◌, ℕ, List, Option, Some, Result, Ok, Err, ◌⊎◌, inl, inr, refl, ap, sym, subst, ◌∙◌}
+use Rattle.std.proofs.Common.{◌≡◌, ℕ, List, Option, Some, Result, Ok, Err, inl, inr, refl, ap, sym, subst, ◌∙◌}
 use Rattle.std.specs.Prelude.{slice_get, IsSome}
 use Rattle.text_accept.specs.Accepting.{AnswersAcceptance, AnswersSystem}
 use Rattle.text_accept.specs.declared.accepting.AcceptedText.{AcceptedText}

@@ -1,5 +1,5 @@
 //! A text, read and judged by all rules; and a system, judged by the rules on systems.
-ghost use Rattle.std.specs.Prelude.{◌≡◌, ◌≤◌, ⊤, length, IfOk, IfErr};
+ghost use Rattle.std.specs.Prelude.{◌≡◌, ◌≤◌, length, IfOk};
 ghost use Rattle.text_accept.specs.Accepting.{AnswersAcceptance, AnswersSystem, IsAtSource, IsLineOfCycle};
 ghost use Rattle.text_accept.specs.Marks.{IsWithoutMark};
 ghost use Rattle.unit_tree.specs.Canonical.{canonical_forms};

@@ -5,8 +5,8 @@ use Rattle.std.proofs.lemmas.List.{append_assoc}
 use Rattle.text_laws.proofs.TokenWidths.{is_worded, width, width_bound}
 use Rattle.unit_tree.specs.Canonical.{placed, node_phrase, canonical_phrase, expression_tokens}
 use Rattle.unit_tree.specs.Phrases as phrase
-use Rattle.unit_tree.specs.Phrases.{Phrase, Level, Whole, Or, And, Not, Comparison, Sum, Product, Negation, Primary, level_of, operand_level, left_level}
-use Rattle.unit_tree.specs.Phrases.{right_level, unary_level, binary_level, allows, stands, tree_of, Writes, keyword, symbol, whole, truth_word, in_parens}
+use Rattle.unit_tree.specs.Phrases.{Phrase, Level, Whole, Or, And, Not, Primary, level_of, operand_level, left_level}
+use Rattle.unit_tree.specs.Phrases.{right_level, unary_level, binary_level, allows, stands, tree_of, Writes, keyword, symbol, whole, in_parens}
 use Rattle.unit_tree.specs.Phrases.{unary_tokens, operation, call_of_two, binary_tokens, phrase_tokens}
 use Rattle.unit_tree.specs.declared.expr.BinOp.{BinOp}
 use Rattle.unit_tree.specs.declared.expr.BinOp.TheVariants as by

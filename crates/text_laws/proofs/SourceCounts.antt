@@ -7,7 +7,7 @@ use Rattle.std.proofs.lemmas.Slice.Zip.{AllZip-long}
 use Rattle.unit_tree.specs.Canonical.{canonical_forms}
 use Rattle.unit_tree.specs.Lines.{source_lines, is_blank_line}
 use Rattle.unit_tree.specs.Parts as parts
-use Rattle.unit_tree.specs.Parts.{Part, UnitPart, unit_part_forms, part_forms, text_forms, system_of}
+use Rattle.unit_tree.specs.Parts.{Part, UnitPart, unit_part_forms, part_forms, text_forms}
 use Rattle.unit_tree.specs.SourceLines.{unit_part_rank, part_rank, of_rank, by_rank, each_ranked, unit_lines_in_order, part_lines_in_order, in_canonical_order}
 use Rattle.unit_tree.specs.SourceLines.{numbers_of}
 use Rattle.unit_tree.specs.Texts.{HasFormIn}

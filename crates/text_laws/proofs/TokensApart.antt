@@ -11,7 +11,7 @@ use Rattle.fixed_words.specs.declared.types.Ty.TheVariants as types
 use Rattle.unit_tree.specs.Canonical.{canonical_phrase, expression_tokens, literal_tokens, form_tokens}
 use Rattle.unit_tree.specs.LineForms.{type_tokens, declaration, names_tokens, needs_tokens, equals, sign_tokens}
 use Rattle.unit_tree.specs.Phrases as phrase
-use Rattle.unit_tree.specs.Phrases.{Phrase, keyword, symbol, whole, truth_word, in_parens, unary_tokens, operation, binary_tokens, phrase_tokens}
+use Rattle.unit_tree.specs.Phrases.{Phrase, keyword, symbol, truth_word, in_parens, unary_tokens, operation, binary_tokens, phrase_tokens}
 use Rattle.unit_tree.specs.declared.expr.BinOp.{BinOp}
 use Rattle.unit_tree.specs.declared.expr.BinOp.TheVariants as by
 use Rattle.unit_tree.specs.declared.expr.Expr.{Expr}

@@ -7,9 +7,9 @@ use Rattle.std.proofs.lemmas.Bool.Decides.{nat_tests}
 use Rattle.std.proofs.lemmas.List.{length-append}
 use Rattle.std.proofs.lemmas.Option.{IfSome_then}
 use Rattle.unit_tree.specs.Phrases as phrase
-use Rattle.unit_tree.specs.Phrases.{Phrase, Level, Whole, Or, And, Not, Comparison, Sum, Product, Negation, Primary, strength, level_of, unary_level}
-use Rattle.unit_tree.specs.Phrases.{binary_level, operand_level, left_level, right_level, allows, stands, nesting, numbers_fit, tree_of, phrase_tokens}
-use Rattle.unit_tree.specs.Phrases.{operation, in_parens, call_of_two, keyword, symbol, whole}
+use Rattle.unit_tree.specs.Phrases.{Phrase, Level, Whole, Or, And, Not, Negation, Primary, strength, level_of, unary_level}
+use Rattle.unit_tree.specs.Phrases.{binary_level, left_level, right_level, allows, stands, nesting, numbers_fit, tree_of, phrase_tokens}
+use Rattle.unit_tree.specs.Phrases.{operation, in_parens, keyword, symbol, whole}
 use Rattle.unit_tree.specs.declared.expr.BinOp.{BinOp}
 use Rattle.unit_tree.specs.declared.expr.BinOp.TheVariants as by
 use Rattle.unit_tree.specs.declared.expr.Expr.{Expr}

@@ -250,6 +250,10 @@ climb reader asked (_ ∷ turns) left = with_right reader (climb reader asked tu
 
 -- ---- Expressions
 
+-- How many levels the grammar of expressions has, from a whole expression to a primary one.
+abbrev pub level_count : ℕ
+level_count = 9
+
 -- An expression whose nested parts `deeper` reads. A right side is on a stronger level than its operation, so
 -- right sides are nested no deeper than there are levels.
 unfoldable pub within : Reader → ℕ → Reader
@@ -260,8 +264,8 @@ within deeper (suc levels_left) asked tokens = do
 
 -- An expression whose parts are nested at most this many levels deep.
 unfoldable pub read : ℕ → Reader
-read zero asked tokens = within (λ level inner. None) decimals_limit asked tokens
-read (suc budget) asked tokens = within (read budget) decimals_limit asked tokens
+read zero asked tokens = within (λ level inner. None) level_count asked tokens
+read (suc budget) asked tokens = within (read budget) level_count asked tokens
 
 -- A part that is one level of nesting deeper.
 abbrev pub deeper : ℕ → Reader

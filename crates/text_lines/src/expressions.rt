@@ -1,7 +1,7 @@
 //! Reading of an expression: its first operand, and then its infix operations in turn.
 ghost use Rattle.std.specs.Prelude.{◌≡◌};
 ghost use Rattle.text_tokens.specs.Scanning.{Gives, GivesWithRest, ReadsAs};
-ghost use Rattle.text_lines.specs.Expressions.{GivesExpression, GivesInfix, GivesRest, WritesOneTree, ExpressionIs, after_symbol, after_then, after_else, name_at, decimals_at, grouped_at, call_at, fix_at, prefix_at, pair_at, clamp_at, choice_at, present_at, keyword_operand, symbol_operand, operand_at, infix_symbol, infix_keyword, infix_of, infix_at, climb, read, deeper, whole_tree, read_expression};
+ghost use Rattle.text_lines.specs.Expressions.{GivesExpression, GivesInfix, GivesRest, WritesOneTree, ExpressionIs, after_symbol, after_then, after_else, name_at, decimals_at, grouped_at, call_at, fix_at, prefix_at, pair_at, clamp_at, choice_at, present_at, keyword_operand, operand_at, infix_of, infix_at, climb, read, deeper, read_expression};
 ghost use Rattle.unit_tree.specs.Levels.{grammar_level};
 
 use fixed_words::{Boxed, List};

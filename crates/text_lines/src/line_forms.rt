@@ -1,9 +1,9 @@
 //! Reading of the form of a line.
-ghost use Rattle.std.specs.Prelude.{◌≡◌, [], ◌∷◌, ◌++◌, Some, None, if◌then◌else◌};
+ghost use Rattle.std.specs.Prelude.{◌≡◌, [], ◌∷◌, Some, None};
 ghost use Rattle.text_tokens.specs.Scanning.{Gives, GivesWithRest, ReadsAs};
 ghost use Rattle.unit_tree.specs.declared.token.Symbol.TheVariants as sign;
 ghost use Rattle.unit_tree.specs.declared.token.Token.TheVariants as token;
-ghost use Rattle.text_lines.specs.Expressions.{GivesRest, after_symbol, name_at, decimals_at};
+ghost use Rattle.text_lines.specs.Expressions.{after_symbol, name_at, decimals_at};
 ghost use Rattle.text_lines.specs.LineReading.{FormIs, LineHas, count_at, unsigned_type, plain_type, named_type, type_at, declaration_at, port_at, more_names, needs_at, number_literal, literal_of, seconds_of, last, started_of, output_of, header_form, unit_form, resolution_form, param_form, state_form, local_form, input_form, event_input_form, output_form, event_output_form, event_form, max_form, if_form, accept_form, repeat_form, instance_form, connect_form, stop_form, longest_form, zero_form, rows_form, sample_form, assign_form, setting_form, keyword_form, name_form, read_form};
 
 use crate::expressions::{after_symbol, decimals_at, name_at, whole_expression};

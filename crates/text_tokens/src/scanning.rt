@@ -1,6 +1,6 @@
-ghost use Rattle.std.specs.Prelude.{◌≡◌, ◌≤◌, ◌<◌, ◌+◌, ◌-◌, ◌*◌, ◌^◌, ◌∷◌, length, take, drop, IfOk};
+ghost use Rattle.std.specs.Prelude.{◌≡◌, ◌≤◌, ◌<◌, ◌+◌, ◌-◌, ◌*◌, ◌^◌, length, take, drop, IfOk};
 ghost use Rattle.std.specs.List.{prefix_len};
-ghost use Rattle.unit_tree.specs.Tokens.{is_blank, is_digit, is_word_byte, keyword_text, symbol_text, number_from};
+ghost use Rattle.unit_tree.specs.Tokens.{is_blank, is_digit, is_word_byte};
 ghost use Rattle.text_tokens.specs.Scanning.{Gives, GivesWithRest, ReadsAs, keywords_from, symbols_from, keywords_like, symbols_like, keyword_of, symbol_of, word_token, word_at, bounded_number, fraction_of, number_token, number_at, symbol_at, token_at, TokensAre};
 
 use crate::fault::Unread;

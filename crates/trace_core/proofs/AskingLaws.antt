@@ -1,17 +1,16 @@
 -- What a run says of an instance between two settlings: its slot, and its limit.
-use Rattle.std.proofs.Common.{◌≡◌, ◌∙◌, ℕ, ◌<◌, ◌≤◌, ◌+◌, ◌^◌, ℤ, true, false, cond, Bool, List, [], length, map, zip, get_or, Option, Some, None, Result, Ok, Err}
+use Rattle.std.proofs.Common.{◌≡◌, ◌∙◌, ℕ, ◌<◌, ◌≤◌, ◌+◌, ◌^◌, ℤ, false, List, [], length, map, get_or, Option, Some, None, Result}
 use Rattle.std.proofs.Common.{refl, ap, sym, subst, arith}
-use Rattle.std.proofs.lemmas.Option.{get_or_from_slice_get, same_Some, slice_get-map, slice_get_within}
+use Rattle.std.proofs.lemmas.Option.{same_Some, slice_get-map, slice_get_within}
 use Rattle.std.specs.Prelude.{slice_get}
 use Rattle.std.specs.Option.{option_map}
 use Rattle.fixed_words.specs.declared.types.Fault.{Fault}
-use Rattle.list_laws.proofs.Members.{at_place}
 use Rattle.list_laws.proofs.Pairs.{zip_there}
 use Rattle.super_time.proofs.LimitLaws.{local_end}
 use Rattle.super_time.specs.LocalTime.{local_time}
 use Rattle.trace_core.specs.Keeping.{cells_seen, run_state, stand_of, IsRun}
-use Rattle.trace_core.specs.Runs.{Cell, Held, Empty, Filled, RunState, is_ended, is_filled, step_length}
-use Rattle.trace_core.specs.Seats.{SlotIs, cell_in, cells_in}
+use Rattle.trace_core.specs.Runs.{Cell, Held, Empty, is_ended, is_filled, step_length}
+use Rattle.trace_core.specs.Seats.{SlotIs, cell_in}
 use Rattle.trace_core.specs.Slots.{slot_seen}
 use Rattle.trace_core.specs.declared.phase.Phase.{Phase}
 use Rattle.trace_core.specs.declared.phase.Phase.TheVariants.{Trial, Redo, Ended}
@@ -23,12 +22,11 @@ use Rattle.trace_core.proofs.FillLaws.{SeatAt, seat_at}
 use Rattle.trace_core.proofs.KeepLaws.{fit_as}
 use Rattle.trace_core.proofs.SeatLaws.{cell_there, cells_long}
 use Rattle.trace_core.proofs.SlotLaws.{AreOfOneLength}
-use Rattle.trace_units.specs.Fleets.{Fleet, ForUnit}
+use Rattle.trace_units.specs.Fleets.{ForUnit}
 use Rattle.unit_tree.specs.Components.{Moved, max_of}
-use Rattle.unit_tree.specs.Compositions.{Composition, Member}
+use Rattle.unit_tree.specs.Compositions.{Composition}
 use Rattle.unit_tree.specs.Negotiation.{all_inputs, inputs_at, limit_at, limit_told, step_at}
 use Rattle.unit_tree.specs.Successor.{standings}
-use Rattle.unit_tree.specs.declared.ending.Ending.{Ending}
 
 -- ---- Which cells there are
 

@@ -25,7 +25,6 @@ use Rattle.unit_tree.specs.Components.{max_of, limit_by, environment_of}
 use Rattle.unit_tree.specs.Negotiation.{limit_told, proposal_of}
 use Rattle.unit_tree.specs.Ports.{first_some}
 use Rattle.unit_tree.specs.Successor.{first_told, max_end_of}
-use Rattle.unit_tree.specs.declared.ending.Ending.{Ending}
 use Rattle.unit_tree.specs.declared.ending.Ending.TheVariants.{UnitFault}
 use Rattle.unit_tree.specs.declared.ending.Place.TheVariants as call
 use Rattle.list_laws.proofs.Members.{at_place}

@@ -1,5 +1,5 @@
 -- The cells of a run have the meanings of the keys of their steps.
-use Rattle.std.proofs.Common.{◌≡◌, ◌∙◌, ℕ, Bool, true, false, ℤ, List, length, Option, Some, None, Result, refl, sym, ap}
+use Rattle.std.proofs.Common.{◌≡◌, ◌∙◌, ℕ, Bool, true, false, ℤ, List, length, Some, None, Result, sym, ap}
 use Rattle.std.proofs.lemmas.List.{length-map}
 use Rattle.std.proofs.lemmas.Option.{same_Some, slice_get-map}
 use Rattle.std.proofs.lemmas.Slice.Zip.{AllZip-long}
@@ -9,7 +9,7 @@ use Rattle.code_units.specs.Calls.{HasWordsFor, meaning_of}
 use Rattle.fixed_words.specs.Types.{is_word_of}
 use Rattle.fixed_words.specs.declared.types.Fault.{Fault}
 use Rattle.super_time.specs.LocalTime.{local_time, local_step}
-use Rattle.trace_core.specs.Runs.{RunState, Filled, Stands, HoldMeanings, IsKeyAt, step_in, step_length}
+use Rattle.trace_core.specs.Runs.{RunState, Filled, Stands, HoldMeanings, IsKeyAt, step_length}
 use Rattle.trace_core.proofs.WantLaws.{words_fit}
 use Rattle.trace_plan.specs.Plans.{HasImage, HaveImages}
 use Rattle.unit_answers.specs.Keys.{StepKey, meaning}
@@ -17,7 +17,7 @@ use Rattle.unit_tree.specs.Components.{Moved, step_of}
 use Rattle.unit_tree.specs.Compositions.{Member, Composition, AreMembers, IsMember}
 use Rattle.unit_tree.specs.Negotiation.{is_held, inputs_at, all_inputs, step_at}
 use Rattle.unit_tree.specs.Ports.{Ports}
-use Rattle.unit_tree.specs.Successor.{Position, standings}
+use Rattle.unit_tree.specs.Successor.{Position}
 use Rattle.unit_tree.specs.Trace.{AreWordsOf, HasWords}
 use Rattle.unit_tree.specs.declared.unit.State.{State}
 use Rattle.unit_vm.specs.Programs.{program_words}

@@ -1,5 +1,5 @@
 //! The ports at a stand, and the phase that follows from it.
-ghost use Rattle.std.specs.Prelude.{◌≡◌, ◌≤◌, ◌<◌, ◌^◌, true, is_none, length};
+ghost use Rattle.std.specs.Prelude.{◌≡◌, ◌≤◌, ◌<◌, true, is_none, length};
 ghost use Rattle.std.specs.List.{list_all};
 ghost use Rattle.port_solve.specs.Solved.{ports_told};
 ghost use Rattle.trace_core.specs.Arriving.{ended_or, phase_there, AreBegunIn};

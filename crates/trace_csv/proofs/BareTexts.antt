@@ -1,17 +1,13 @@
 -- The texts of words need no quotes: all their bytes are the minus sign or greater, and the bytes that need quotes are less.
-use Rattle.std.proofs.Common.{◌≡◌, ◌≤◌, ◌<◌, ◌^◌, ◌++◌, ◌∷◌, [], ℕ, ℤ, zero, suc, List, Bool, true, false, take, drop, replicate, refl, ap, cond, arith, pos}
-use Rattle.std.proofs.Common.{negsuc, unsigned_abs}
-use Rattle.std.proofs.lemmas.Bool.{ne_eqb, and_parts}
+use Rattle.std.proofs.Common.{◌≡◌, ◌≤◌, ◌<◌, ◌^◌, ◌∷◌, [], ℕ, ℤ, List, Bool, false, refl, ap, cond, arith}
+use Rattle.std.proofs.Common.{unsigned_abs}
+use Rattle.std.proofs.lemmas.Bool.{ne_eqb}
 use Rattle.std.specs.Fmt.{decimal, signed_decimal}
-use Rattle.std.specs.Int.{is_negative}
-use Rattle.std.specs.List.{AllByRecursion, list_all}
 use Rattle.csv.specs.declared.writer.QuoteStyle.TheVariants as style
 use Rattle.csv.specs.Writing.{needs_quotes, needs_byte, quoted}
-use Rattle.fixed_words.specs.Digits.{is_digit, pointed}
-use Rattle.fixed_words.specs.Texts.{sign_text, truth_text, padded, fixed_text, text_of}
+use Rattle.fixed_words.specs.Texts.{fixed_text, text_of}
 use Rattle.fixed_words.specs.declared.types.Ty.{Ty}
 use Rattle.fixed_words.specs.declared.types.Ty.TheVariants as types
-use Rattle.fixed_words.proofs.Numbers.{decimal_is}
 use Rattle.trace_csv.proofs.HighTexts.{AreHigh, high_decimal, high_fixed, high_word}
 use Rattle.trace_csv.specs.Writers.{IsBare, quoting_in}
 

@@ -1,31 +1,27 @@
 -- A trace has at most 2,048 columns: as many as samples are allowed, or as 64 instances have outputs.
-use Rattle.std.proofs.Common.{◌≡◌, ◌≤◌, ℕ, ◌+◌, ◌*◌, Bool, true, false, cond, List, [], ◌∷◌, ◌++◌, length, map, length-append, Option, Some, None, inl, inr, refl}
+use Rattle.std.proofs.Common.{◌≡◌, ◌≤◌, ℕ, ◌+◌, ◌*◌, Bool, true, false, cond, List, [], ◌∷◌, length, map, length-append, Option, Some, None, inl, inr, refl}
 use Rattle.std.proofs.Common.{ap, sym, subst, ◌∙◌, arith}
 use Rattle.std.proofs.lemmas.List.{length-map}
 use Rattle.std.specs.Prelude.{◌==◌}
 use Rattle.std.specs.List.{cons_option, filter_map, flat_map}
 use Rattle.std.specs.Option.{option_map}
-use Rattle.model_rules.specs.Limits.{instance_limit, output_limit, sample_limit}
+use Rattle.model_rules.specs.Limits.{output_limit, sample_limit}
 use Rattle.trace_csv.specs.Columns.{column_of, columns_of}
-use Rattle.trace_plan.specs.Shown.{FewOutputs, output_count}
-use Rattle.unit_tree.specs.Names.{Port, is_empty, output_at, output_ports, unit_of_instance}
+use Rattle.trace_plan.specs.Shown.{output_count}
+use Rattle.unit_tree.specs.Names.{is_empty, output_at, output_ports, unit_of_instance}
 use Rattle.unit_tree.specs.Orders.{outputs_in, outputs_of, port_of}
-use Rattle.unit_tree.specs.Plain.{plain_form, plain_output, plain_outputs, plain_unit, samples_or_all}
+use Rattle.unit_tree.specs.Plain.{plain_output, plain_outputs, plain_unit, samples_or_all}
 use Rattle.unit_tree.specs.Printable.{IsRanged}
 use Rattle.unit_tree.specs.WellFormed.{IsWellFormed}
-use Rattle.unit_tree.specs.declared.system.Column.{Column}
 use Rattle.unit_tree.specs.declared.system.Instance.{Instance}
-use Rattle.unit_tree.specs.declared.system.PortName.{PortName}
 use Rattle.unit_tree.specs.declared.system.System.{System}
-use Rattle.unit_tree.specs.declared.unit.EventOut.{EventOut}
-use Rattle.unit_tree.specs.declared.unit.Output.{Output}
 use Rattle.unit_tree.specs.declared.unit.Unit.{Unit}
 use Rattle.language_laws.proofs.PlainNames.{of_event, of_output}
 use Rattle.run_laws.proofs.EventLaws.{plain_form_1, version_1_without_events}
 use Rattle.run_laws.proofs.PlainOrders.{named_has, plain_named, plain_of}
 use Rattle.trace_plan.proofs.ShownOutputs.{few_outputs}
 use Rattle.trace_plan.proofs.SystemLines.{few_instances, few_samples}
-use Rattle.list_laws.proofs.Members.{Has, each_has}
+use Rattle.list_laws.proofs.Members.{each_has}
 use Rattle.list_laws.proofs.Truths.{one_or_two}
 
 -- ---- Lengths of lists

@@ -4,7 +4,7 @@ ghost use Rattle.std.specs.Option.{IfSome, option_map};
 ghost use Rattle.trace_plan.specs.Keeps.{AreNumbersOf};
 ghost use Rattle.trace_plan.specs.Lengths.{IsReadable};
 ghost use Rattle.model_rules.specs.Limits.{default_zeros};
-ghost use Rattle.unit_tree.specs.Compositions.{ticks_or, default_rows, factor_of, run_of};
+ghost use Rattle.unit_tree.specs.Compositions.{ticks_or, default_rows, run_of};
 ghost use Rattle.unit_tree.specs.WellFormed.{unit_resolution, resolution_of};
 
 use fixed_words::{Literal, ten_to_the};

@@ -11,7 +11,6 @@ use Rattle.std.proofs.lemmas.List.{at_drop_more}
 use Rattle.std.proofs.lemmas.Slice.Zip.{AllZip-long}
 use Rattle.cosim_io.specs.Faults.{Rose}
 use Rattle.cosim_io.specs.Pieces.{AppendsPrefix}
-use Rattle.cosim_io.proofs.PieceLemmas.{AppendsPrefix-nil}
 use Rattle.super_time.specs.declared.point.Point.{Point}
 use Rattle.trace_core.specs.Runs.{RunState, Stands, row_told}
 use Rattle.trace_core.specs.declared.phase.Row as lent
@@ -31,7 +30,7 @@ use Rattle.trace_rows.specs.Faults.{TellsFault}
 use Rattle.trace_rows.specs.Lines.{PutsRow, header_of, lines_of, rows_here}
 use Rattle.trace_rows.specs.Sums.{IsBoundedBy, word_shown, row_sum, sum_shown}
 use Rattle.trace_rows.specs.declared.fault.CrewFault.{CrewFault}
-use Rattle.trace_rows.specs.declared.fault.CrewFault.TheVariants.{NoMemory, WriteFault}
+use Rattle.trace_rows.specs.declared.fault.CrewFault.TheVariants.{WriteFault}
 use Rattle.trace_rows.specs.declared.tally.Tally.{Tally}
 
 -- ---- Sums

@@ -1,16 +1,12 @@
 -- No field of a trace has a byte by which a table is cut.
-use Rattle.std.proofs.Common.{◌≡◌, ℕ, zero, suc, ◌+◌, ◌-◌, ◌/◌, ◌%◌, ◌≤◌, ◌==◌, Bool, true, false, ℤ, pos, negsuc, List, [], ◌∷◌, ◌++◌, map, length, take, drop, replicate, unsigned_abs, Option, Some, None, refl, sym, subst, arith, inl, inr}
-use Rattle.std.specs.Prelude.{codes, nat_lt, if◌then◌else◌, slice_get, slice_index_or}
-use Rattle.std.specs.Fmt.{decimal, digit_glyph, digits, digits_onto, signed_decimal}
-use Rattle.std.specs.Int.{is_negative}
+use Rattle.std.proofs.Common.{◌≡◌, ℕ, zero, ◌+◌, ◌≤◌, ◌==◌, Bool, true, false, ℤ, pos, List, [], ◌∷◌, ◌++◌, map, Option, Some, None, refl, subst, arith}
+use Rattle.std.specs.Prelude.{codes, if◌then◌else◌, slice_get, slice_index_or}
+use Rattle.std.specs.Fmt.{decimal}
 use Rattle.std.specs.List.{AllByRecursion, cons_option, filter_map, flat_map, list_all}
-use Rattle.std.specs.Str.{bytes_eq}
 use Rattle.std.specs.Option.{option_and_then, option_map}
 use Rattle.std.proofs.lemmas.Bool.{and_parts}
 use Rattle.std.proofs.lemmas.Bool.Decides.{nat_tests}
-use Rattle.fixed_words.specs.Digits.{pointed}
-use Rattle.fixed_words.specs.Texts.{fixed_text, padded, sign_text, text_of}
-use Rattle.fixed_words.specs.declared.types.Ty.{Ty}
+use Rattle.fixed_words.specs.Texts.{fixed_text, text_of}
 use Rattle.fixed_words.specs.declared.types.Ty.TheVariants as types
 use Rattle.list_laws.proofs.Lists.{each_append, each_map, each_part, each_so, of_flat, of_mapped}
 use Rattle.list_laws.proofs.Members.{Has, each_has, has_at}
@@ -20,7 +16,7 @@ use Rattle.trace_verify.specs.TraceLines.{IsPlain, is_special}
 use Rattle.run_laws.proofs.PlainOrders.{named_has}
 use Rattle.trace_csv.proofs.HighTexts.{AreHigh, high_decimal, high_fixed, high_word, high_append}
 use Rattle.unit_tree.specs.Canonical.{canonical_parts, optional, unit_parts}
-use Rattle.unit_tree.specs.Names.{unit_named, unit_of_instance}
+use Rattle.unit_tree.specs.Names.{unit_of_instance}
 use Rattle.unit_tree.specs.Parts as parts
 use Rattle.unit_tree.specs.Parts.{Part, UnitPart, part_forms, unit_part_forms}
 use Rattle.unit_tree.specs.Plain.{plain_form, plain_output, plain_outputs, plain_unit, plain_wires, samples_or_all}

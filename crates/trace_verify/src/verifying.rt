@@ -1,5 +1,5 @@
 //! The verdict on a table that should be the trace of a plan.
-ghost use Rattle.std.specs.Prelude.{◌≡◌, IfOk};
+ghost use Rattle.std.specs.Prelude.{IfOk};
 ghost use Rattle.trace_verify.specs.Verifying.{IsVerdictOn};
 
 use crate::compare::Comparison;

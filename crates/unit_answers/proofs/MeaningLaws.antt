@@ -3,7 +3,7 @@ use Rattle.std.proofs.Common.{◌≡◌, ◌∙◌, ◌<◌, ◌≤◌, ℕ, ◌
 use Rattle.std.specs.Prelude.{IfOk}
 use Rattle.code_units.specs.Calls.{HasWordsFor, meaning_of}
 use Rattle.unit_answers.specs.Answers.{IsProven, step_told}
-use Rattle.unit_answers.specs.Keys.{StepKey, FitsCode, key_held, key_of, meaning}
+use Rattle.unit_answers.specs.Keys.{FitsCode, key_held, key_of, meaning}
 use Rattle.unit_answers.specs.Proving.{IsStepOf}
 use Rattle.unit_answers.specs.declared.answer.Answer.{Answer}
 use Rattle.unit_answers.specs.declared.key.Key.{Key}
@@ -15,7 +15,6 @@ use Rattle.unit_vm.specs.Programs.{program_words}
 use Rattle.unit_vm.specs.Reading.{program_in}
 use Rattle.unit_vm.specs.Valid.{HasFacts}
 use Rattle.unit_vm.specs.declared.program.CodeFacts.{CodeFacts}
-use Rattle.unit_vm.specs.declared.program.Program.{Program}
 
 -- One more input has its word.
 pub given_more : (old words now : List ℤ) (k : ℕ) → length words ≤ length old → k < length words → now ≡ take k words ++ drop k old

@@ -1,5 +1,5 @@
 -- Keys of steps, and what they mean.
-use Rattle.std.specs.Prelude.{◌≡◌, ◌≤◌, ℕ, ◌+◌, ◌^◌, ℤ, List, Option, Result}
+use Rattle.std.specs.Prelude.{◌≤◌, ℕ, ◌+◌, ◌^◌, ℤ, List, Option, Result}
 use Rattle.code_units.specs.Calls.{meaning_of, HasWordsFor}
 use Rattle.fixed_words.specs.declared.types.Fault.{Fault}
 use Rattle.unit_answers.specs.declared.key.Key.{Key}

@@ -1,6 +1,6 @@
 -- The walk that searches the line which declares an output finds it.
 use Rattle.std.proofs.Common.{◌≡◌, ℕ, suc, ◌+◌, Bool, true, false, List, [], ◌∷◌, Option, Some, None, Result, Ok, Err, refl, ap, sym, ◌∙◌, subst, add-one}
-use Rattle.std.specs.Prelude.{nat_eq, if◌then◌else◌, IfOk, ⊤}
+use Rattle.std.specs.Prelude.{nat_eq, if◌then◌else◌, ⊤}
 use Rattle.std.specs.List.{find, enumerate_from}
 use Rattle.std.specs.Option.{option_map}
 use Rattle.unit_check.specs.Walks.{Test, onward, system_walk, test_at}

@@ -30,7 +30,7 @@ use Rattle.unit_tree.specs.declared.unit.Unit.{Unit}
 use Rattle.language_laws.proofs.BlockLaws.{canonical_are, parts_behind, unit_part}
 use Rattle.language_laws.proofs.PartLaws.{grouped_ten}
 use Rattle.language_laws.proofs.SiteLaws as site_laws
-use Rattle.list_laws.proofs.Lists.{of_mapped, of_flat, each_part}
+use Rattle.list_laws.proofs.Lists.{of_mapped, each_part}
 
 -- ---- Lists
 

@@ -13,7 +13,7 @@ use Rattle.unit_tree.specs.declared.line_form.LineForm.TheVariants as form
 use Rattle.unit_tree.specs.declared.system.Instance.{Instance}
 use Rattle.unit_tree.specs.declared.system.System.{System}
 use Rattle.unit_tree.specs.declared.unit.Unit.{Unit}
-use Rattle.list_laws.proofs.Lists.{each_so, each_append, each_map}
+use Rattle.list_laws.proofs.Lists.{each_append, each_map}
 
 pub all_each : {A : Type 0} (P : A → Type 0) → ((x : A) → P x) → (xs : List A) → AllByRecursion P xs
 all_each P holds [] = _

@@ -6,7 +6,7 @@ use Rattle.std.proofs.lemmas.List.{map-append}
 use Rattle.unit_check.proofs.SiteWalks.{line_sites}
 use Rattle.unit_tree.specs.Canonical.{optional, unit_parts, canonical_parts}
 use Rattle.unit_tree.specs.Parts as parts
-use Rattle.unit_tree.specs.Parts.{Part, UnitPart, line_forms, unit_of}
+use Rattle.unit_tree.specs.Parts.{Part, UnitPart, line_forms}
 use Rattle.unit_tree.specs.Sites.{UnitScope, StepScope, InstanceScope, TopScope, Headed, alone, sites, headed_unit_part, headed_part, sites_of}
 use Rattle.unit_tree.specs.declared.line.Line.{Line}
 use Rattle.unit_tree.specs.declared.line_form.LineForm.{LineForm}

@@ -2,9 +2,7 @@
 ghost use Rattle.std.specs.Prelude.{◌≡◌};
 ghost use Rattle.unit_check.specs.Ranges.{has_few_decimals, word_read, setting_type, literal_read, is_of_wrong_kind_at, is_out_of_range_at};
 ghost use Rattle.unit_check.specs.Walks.{scope_of, form_of};
-ghost use Rattle.unit_tree.specs.Kinds.{line_is_kinded};
 ghost use Rattle.unit_tree.specs.LineForms.{tail_of, tail_speaks_of_events};
-ghost use Rattle.unit_tree.specs.Names.{kinds_in};
 ghost use Rattle.unit_tree.specs.declared.line_form.LineForm.TheVariants as form;
 ghost use Rattle.unit_tree.specs.Sites.{UnitScope, StepScope};
 ghost use Rattle.unit_tree.specs.WellFormed.{mistakes_kind, on_literal, is_misformed, is_beyond};

@@ -1,6 +1,5 @@
 //! Rules on the lines that set the limits of a run: 19 (`stop`), 20 (times), 21 (rows) and 23 (instances).
 ghost use Rattle.std.specs.Prelude.{◌≡◌, max};
-ghost use Rattle.std.specs.List.{fold};
 ghost use Rattle.unit_check.specs.Ranges.{is_length_read, has_few_places, mistimes_at};
 ghost use Rattle.unit_check.specs.Walks.{form_of};
 ghost use Rattle.unit_tree.specs.WellFormed.{lacks_stop, lacks_instance, has_too_many_rows, resolution_of, unit_resolution};

@@ -1,7 +1,7 @@
 -- A target of a unit that is well-formed is a state or a local, and has its slot.
 use Rattle.std.proofs.Common.{◌≡◌, ◌⊎◌, ℕ, suc, ◌+◌, ◌<◌, ◌≤◌, Bool, true, false, ℤ, List, [], ◌∷◌, ◌++◌, map, length, Option, Some, None, inl, inr, refl, sym}
 use Rattle.std.proofs.Common.{ap, ◌∙◌, subst, arith}
-use Rattle.std.specs.Prelude.{◌||◌, cond, nat_lt, is_none}
+use Rattle.std.specs.Prelude.{cond, nat_lt, is_none}
 use Rattle.std.specs.List.{find, flat_map}
 use Rattle.std.specs.Option.{option_map, option_or}
 use Rattle.std.specs.Str.{bytes_eq}

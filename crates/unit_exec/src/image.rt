@@ -1,4 +1,4 @@
-ghost use Rattle.std.specs.Prelude.{◌≡◌, ◌≤◌, map, length, IsSome, IfOk, IfSome};
+ghost use Rattle.std.specs.Prelude.{◌≡◌, map, length, IsSome, IfOk, IfSome};
 ghost use Rattle.unit_exec.specs.Showing.{Shows, ShowsBy, ShowStates};
 ghost use Rattle.fixed_words.specs.Types.{AreDecimals};
 ghost use Rattle.unit_tree.specs.Components.{start_word};

@@ -1,5 +1,5 @@
 //! Expressions: copies, and their plain forms.
-ghost use Rattle.std.specs.Prelude.{◌≡◌, ◌++◌, ◌∷◌, [], IfOk};
+ghost use Rattle.std.specs.Prelude.{◌≡◌, IfOk};
 ghost use Rattle.unit_tree.specs.Plain.{presence_name, plain_expression, presence_of, word_expression_of, zero_of};
 
 use crate::copies::Copied;

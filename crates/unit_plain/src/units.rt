@@ -2,7 +2,7 @@
 ghost use Rattle.std.specs.Prelude.{◌≡◌, ◌++◌, map, IfOk, OnOk};
 ghost use Rattle.std.specs.List.{flat_map};
 ghost use Rattle.std.specs.Option.{option_map};
-ghost use Rattle.unit_tree.specs.Names.{is_among, event_input_names};
+ghost use Rattle.unit_tree.specs.Names.{is_among};
 ghost use Rattle.unit_tree.specs.Plain.{plain_expression, plain_line, no_event, plain_inputs, plain_need, plain_needs, plain_output, plain_outputs, plain_unit};
 
 use crate::copies::{Copied, copied_list};

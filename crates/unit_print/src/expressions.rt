@@ -1,6 +1,6 @@
 //! Expressions, with the parentheses that the grammar requires and no others.
-ghost use Rattle.std.specs.Prelude.{◌≡◌, ◌++◌, ◌∷◌, [], OnOk, IsTrue, IsFalse};
-ghost use Rattle.unit_tree.specs.Canonical.{canonical_phrase, placed, token_text, expression_tokens};
+ghost use Rattle.std.specs.Prelude.{◌≡◌, ◌∷◌, OnOk};
+ghost use Rattle.unit_tree.specs.Canonical.{canonical_phrase, placed, expression_tokens};
 ghost use Rattle.unit_tree.specs.Phrases as phrase;
 ghost use Rattle.unit_tree.specs.Phrases.{phrase_tokens, binary_level, left_level, right_level, unary_level, operand_level, in_parens, keyword, symbol, operation, truth_word};
 ghost use Rattle.unit_print.specs.Growing.{with_token, with_tokens};

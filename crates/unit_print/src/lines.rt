@@ -3,7 +3,7 @@ ghost use Rattle.std.specs.Prelude.{◌≡◌, ◌++◌, ◌∷◌, [], OnOk};
 ghost use Rattle.unit_tree.specs.Canonical.{literal_tokens};
 ghost use Rattle.unit_tree.specs.LineForms.{type_tokens, port_tokens, declaration, needs_tokens};
 ghost use Rattle.unit_tree.specs.declared.line_form.LineForm.TheVariants as form;
-ghost use Rattle.unit_print.specs.Growing.{with_token, with_tokens, with_lines, others_tokens};
+ghost use Rattle.unit_print.specs.Growing.{with_tokens, with_lines, others_tokens};
 
 use crate::expressions::{expression, truth};
 use crate::tokens::{keyword, name, number, symbol, whole};

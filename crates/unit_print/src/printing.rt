@@ -1,6 +1,6 @@
 //! Systems, by their parts in canonical order.
-ghost use Rattle.std.specs.Prelude.{◌≡◌, ◌++◌, ◌∷◌, [], map, OnOk, OnErr};
-ghost use Rattle.unit_tree.specs.Canonical.{optional, unit_parts, canonical_parts, canonical_text};
+ghost use Rattle.std.specs.Prelude.{◌≡◌, ◌++◌, [], map, OnOk, OnErr};
+ghost use Rattle.unit_tree.specs.Canonical.{optional, unit_parts, canonical_text};
 ghost use Rattle.unit_tree.specs.Parts as parts;
 ghost use Rattle.unit_tree.specs.Parts.{part_forms};
 ghost use Rattle.unit_print.specs.Growing.{with_lines, with_unit_parts, with_parts, with_settings};

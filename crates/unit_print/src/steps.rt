@@ -1,5 +1,5 @@
 //! The lines of a unit's step, with the lines of their blocks.
-ghost use Rattle.std.specs.Prelude.{◌≡◌, ◌++◌, ◌∷◌, [], map, OnOk};
+ghost use Rattle.std.specs.Prelude.{◌≡◌, ◌∷◌, map, OnOk};
 ghost use Rattle.unit_tree.specs.Parts.{joined, line_forms};
 ghost use Rattle.unit_tree.specs.declared.line_form.LineForm.TheVariants as form;
 ghost use Rattle.unit_print.specs.Growing.{with_lines, with_step_lines};

@@ -1,6 +1,6 @@
 //! Tokens, appended to a text with a space exactly where letters, digits or `_` would be next to
 //! each other.
-ghost use Rattle.std.specs.Prelude.{◌≡◌, ◌++◌, ◌<◌, ◌≤◌, ◌∷◌, [], length, replicate, decimal, if◌then◌else◌, IfOk, OnOk};
+ghost use Rattle.std.specs.Prelude.{◌≡◌, ◌++◌, ◌<◌, ◌≤◌, ◌∷◌, [], length, replicate, if◌then◌else◌, OnOk};
 ghost use Rattle.fixed_words.specs.Texts.{fixed_text, padded, pointed_before};
 ghost use Rattle.unit_tree.specs.Canonical.{ends_in_word, spaced};
 ghost use Rattle.unit_tree.specs.Phrases.{keyword, symbol, whole};

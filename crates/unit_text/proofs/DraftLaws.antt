@@ -10,7 +10,7 @@ use Rattle.unit_tree.specs.Blocks as blocks
 use Rattle.unit_tree.specs.Blocks.{Block, no_lines, and_lines, holds_form, has_rival, has_room, may_stand, are_placed, is_inner}
 use Rattle.unit_tree.specs.LineForms.{are_alike}
 use Rattle.unit_tree.specs.Parts as parts
-use Rattle.unit_tree.specs.Parts.{Part, UnitPart, line_forms, unit_part_forms, part_forms, text_forms, unit_of, system_of}
+use Rattle.unit_tree.specs.Parts.{Part, UnitPart, line_forms, unit_part_forms, text_forms, unit_of, system_of}
 use Rattle.unit_tree.specs.declared.line.Line.{Line}
 use Rattle.unit_tree.specs.declared.line_form.LineForm.{LineForm}
 use Rattle.unit_tree.specs.declared.line_form.LineForm.TheVariants as form

@@ -13,7 +13,7 @@ use Rattle.unit_tree.specs.declared.line_form.LineForm.{LineForm}
 use Rattle.unit_tree.specs.declared.line_form.LineForm.TheVariants as form
 use Rattle.unit_tree.specs.declared.system.Instance.{Instance}
 use Rattle.unit_text.specs.Nesting as nesting
-use Rattle.unit_text.specs.Nesting.{Inner, Open, AtTop, InUnit, InStep, InInstance, Nested, opened, headed_by, and_form, and_step_form, around_forms}
+use Rattle.unit_text.specs.Nesting.{Inner, Open, AtTop, InUnit, InStep, InInstance, Nested, headed_by, and_form, and_step_form, around_forms}
 use Rattle.unit_text.specs.Nesting.{open_forms, nested_forms}
 use Rattle.unit_text.specs.Numbering.{place_of, no_unit_numbers, bare_numbers, unit_in_order, unit_end, instance_line, with_group, with_line, marks_of}
 use Rattle.unit_text.specs.Numbering.{with_mark, with_marks, in_order}

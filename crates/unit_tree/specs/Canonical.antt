@@ -9,7 +9,7 @@ use Rattle.unit_tree.specs.LineForms.{Tail, Nothing, OfLiteral, OfSeconds, OfExp
 use Rattle.unit_tree.specs.Parts as parts
 use Rattle.unit_tree.specs.Parts.{Part, UnitPart, text_forms}
 use Rattle.unit_tree.specs.Phrases as phrase
-use Rattle.unit_tree.specs.Phrases.{Phrase, Level, Whole, level_of, operand_level, left_level, right_level, unary_level, binary_level, allows, phrase_tokens}
+use Rattle.unit_tree.specs.Phrases.{Phrase, Level, level_of, operand_level, left_level, right_level, unary_level, binary_level, allows, phrase_tokens}
 use Rattle.unit_tree.specs.Phrases.{keyword, truth_word}
 use Rattle.unit_tree.specs.Tokens.{is_word_byte, begins_with, keyword_text, symbol_text}
 use Rattle.unit_tree.specs.declared.expr.Expr.{Expr, fold-Expr}

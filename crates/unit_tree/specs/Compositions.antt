@@ -1,6 +1,6 @@
 -- Compositions, which are what is run: the instances of a system as components, each with its clock and with the
 -- source of each of its inputs. Names are resolved here; the definitions after this one use numbers.
-use Rattle.std.specs.Prelude.{◌≡◌, ◌≤◌, ℕ, ◌==◌, ◌-◌, ◌/◌, ◌^◌, min, ℤ, List, [], ◌∷◌, map, length, if◌then◌else◌, Option, Some, None}
+use Rattle.std.specs.Prelude.{◌≡◌, ◌≤◌, ℕ, ◌-◌, ◌/◌, ◌^◌, min, ℤ, List, [], ◌∷◌, map, length, if◌then◌else◌, Option, Some, None}
 use Rattle.std.specs.List.{AllByRecursion, filter_map, position_or_len}
 use Rattle.std.specs.Option.{unwrap_or}
 use Rattle.std.specs.Str.{bytes_eq}

@@ -19,7 +19,7 @@ least_of first (other ∷ others) = min first (least_of other others)
 abbrev pub proposal_of : ℕ → ℕ → ℕ → List ℕ → ℕ
 proposal_of stop longest t limits = least_of (stop - t) (longest ∷ limits)
 
--- A member is held in a step of length h from t if no local tick of it begins there. In a step of length zero no
+-- A member is held in a step of length h from t if no local tick of it ends there. In a step of length zero no
 -- member is held.
 abbrev pub is_held : ℕ → ℕ → ℕ → Bool
 is_held factor t h = not (h == 0) && (local_step factor t h == 0)

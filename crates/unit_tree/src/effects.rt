@@ -1,7 +1,7 @@
 //! Step lines, run as their effect is defined.
-ghost use Rattle.std.specs.Prelude.{◌≡◌, ◌<◌, ◌≤◌, ◌^◌, length, pos, Ok, Err, IsTrue, IfOk, IfErr, OnOk, OnErr};
-ghost use Rattle.unit_tree.specs.Values.{AreTyped, IsSound};
-ghost use Rattle.unit_tree.specs.Effects.{stored, assigned, accepting, effect_of, effect_of_lines, times, otherwise, in_sequence, line_is_ranged, lines_are_ranged, Runs};
+ghost use Rattle.std.specs.Prelude.{◌≡◌, ◌<◌, length, Ok, Err, IsTrue, IfErr, OnOk};
+ghost use Rattle.unit_tree.specs.Values.{IsSound};
+ghost use Rattle.unit_tree.specs.Effects.{stored, assigned, accepting, effect_of, effect_of_lines, times, line_is_ranged, lines_are_ranged, Runs};
 
 use crate::environment::{Environment, Variable};
 use crate::evaluate::{is_true, value};

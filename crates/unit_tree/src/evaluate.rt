@@ -1,7 +1,6 @@
 //! Expressions and step lines, evaluated as they are defined. The code is small and slow; faster code is
 //! compared with it.
-ghost use Rattle.std.specs.Prelude.{◌≡◌, ◌≤◌, ◌<◌, ◌^◌, ◌↔◌, length, IsTrue, IfOk, not};
-ghost use Rattle.fixed_words.specs.Operations.{is_zero};
+ghost use Rattle.std.specs.Prelude.{◌≡◌, ◌≤◌, ◌<◌, length, IsTrue, IfOk};
 ghost use Rattle.unit_tree.specs.Values.{as_kind, kind_of_number, truth as truth_value, holds, value_of, value_of_name, with_decimals, whole_part, product_of, ratio_of, unary_value, binary_value, clamped_value, IsKind, IsUnary, is_ranged, AreTyped, IsSound};
 
 use crate::environment::{Environment, Value, Variable};

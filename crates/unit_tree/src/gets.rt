@@ -3,7 +3,7 @@ use fixed_words::Fault;
 /// Components of a system whose inputs can be set and whose outputs can be read. Instances, inputs and outputs are
 /// named by their numbers from 0 in the system's plain form.
 pub trait Gets {
-    ghost use Rattle.std.specs.Prelude.{ℕ, ℤ, List, Option, Some, IsSome, ◌≡◌};
+    ghost use Rattle.std.specs.Prelude.{ℤ, List, Some, IsSome, ◌≡◌};
     ghost use Rattle.unit_tree.specs.Compositions.{run_of};
     ghost use Rattle.unit_tree.specs.Given.{given_by, with_input, IsInputWord};
     ghost use Rattle.unit_tree.specs.declared.system.System.{System};

@@ -10,7 +10,7 @@ use Rattle.std.proofs.lemmas.List.Elements.{filter_map-append}
 use Rattle.std.proofs.lemmas.List.Sums.{sum_by-append}
 use Rattle.language_laws.proofs.NameLaws.{Hold, all_keep, hold_all, hold_behind}
 use Rattle.text_laws.proofs.KeptRules.{all_hold, no_number}
-use Rattle.list_laws.proofs.Lists.{each_append, each_so}
+use Rattle.list_laws.proofs.Lists.{each_so}
 use Rattle.unit_tree.specs.Canonical.{canonical_parts}
 use Rattle.model_rules.specs.Limits.{default_zeros}
 use Rattle.unit_tree.specs.Compositions.{default_rows}
@@ -18,7 +18,7 @@ use Rattle.unit_tree.specs.LineForms.{are_alike, tail_of, tail_speaks_of_events}
 use Rattle.unit_tree.specs.Names.{expression_on, same_port}
 use Rattle.unit_tree.specs.Parts as parts
 use Rattle.unit_tree.specs.Plain.{plain_forms}
-use Rattle.unit_tree.specs.Sites.{Headed, InstanceScope, Scope, Site, StepScope, TopScope, UnitScope, alone, headed_part, sites, sites_of}
+use Rattle.unit_tree.specs.Sites.{Headed, InstanceScope, Scope, Site, StepScope, TopScope, UnitScope, alone, headed_part, sites_of}
 use Rattle.unit_tree.specs.WellFormed.{BreaksNone, IsWellFormed, Rule, number_where, rules}
 use Rattle.unit_tree.specs.WellFormed.{assigns_read_only, connects_again, costs_too_much, exceeds, has_deep_expression, has_too_many_rows}
 use Rattle.unit_tree.specs.WellFormed.{hides_need, is_above}

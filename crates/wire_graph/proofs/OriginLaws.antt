@@ -1,6 +1,6 @@
 -- What the tables of names find.
 use Rattle.std.proofs.Common.{◌≡◌, ℕ, suc, ◌+◌, Bool, true, false, cond, List, [], ◌∷◌, map, length, Option, Some, None, refl, ap, sym, subst, ◌∙◌, arith}
-use Rattle.std.specs.Prelude.{slice_get, not, unwrap_or, ◌&&◌}
+use Rattle.std.specs.Prelude.{slice_get, not, unwrap_or}
 use Rattle.std.specs.List.{position_from, position_or_len, filter_map, cons_option}
 use Rattle.std.specs.Borrow.{Bor}
 use Rattle.std.specs.Option.{option_map, option_and_then, option_copied}

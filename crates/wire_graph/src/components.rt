@@ -1,4 +1,4 @@
-ghost use Rattle.std.specs.Prelude.{◌≡◌, ◌++◌, ◌∷◌, [], IfOk, OnOk, map};
+ghost use Rattle.std.specs.Prelude.{◌≡◌, ◌++◌, IfOk, OnOk, map};
 ghost use Rattle.wire_graph.specs.Wiring.{named_of, port_with, components_in, outputs_named, output_ports_of, targets_of};
 
 use fixed_words::NoMemory;

@@ -1,4 +1,4 @@
-ghost use Rattle.std.specs.Prelude.{◌≡◌, ◌<◌, IfOk, IfErr, length};
+ghost use Rattle.std.specs.Prelude.{◌<◌, IfOk, IfErr, length};
 ghost use Rattle.unit_tree.specs.Compositions.{run_of};
 ghost use Rattle.unit_tree.specs.Routes.{IsOrderOf};
 ghost use Rattle.unit_tree.specs.Plain.{plain_form};

@@ -1,13 +1,13 @@
-ghost use Rattle.std.specs.Prelude.{◌≡◌, IfOk, map, length, slice_get};
-ghost use Rattle.std.specs.List.{AllByRecursion, position_from};
+ghost use Rattle.std.specs.Prelude.{◌≡◌, IfOk, map, slice_get};
+ghost use Rattle.std.specs.List.{AllByRecursion};
 ghost use Rattle.std.specs.Option.{option_map};
 ghost use Rattle.fixed_words.specs.Types.{AreDecimals};
 ghost use Rattle.indexmap.specs.IndexMap.{get_by};
 ghost use Rattle.unit_tree.specs.Components.{start_word};
 ghost use Rattle.unit_tree.specs.Compositions.{place_of, source_from};
 ghost use Rattle.unit_tree.specs.Names.{same_port};
-ghost use Rattle.unit_tree.specs.Orders.{outputs_of, sources_of};
-ghost use Rattle.wire_graph.specs.Wiring.{port_with, port_named, targets_of, named_of};
+ghost use Rattle.unit_tree.specs.Orders.{sources_of};
+ghost use Rattle.wire_graph.specs.Wiring.{port_with, port_named, named_of};
 ghost use Rattle.wire_graph.specs.Origins.{FindsPortPlaces, AreTables, HaveDecimals, source_behind, origin_of, wired_input, input_of, member_behind, member_of};
 
 use crate::components::{Component, PortKey};

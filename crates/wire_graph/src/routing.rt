@@ -1,12 +1,12 @@
 ghost use Rattle.std.specs.Prelude.{◌≡◌, ◌++◌, IfOk, OnOk, map};
-ghost use Rattle.std.specs.List.{AllByRecursion, enumerate_from, flat_map, filter_map, zip};
+ghost use Rattle.std.specs.List.{AllByRecursion, enumerate_from, flat_map, filter_map};
 ghost use Rattle.unit_tree.specs.Compositions.{HasNoEvents, composition_of};
 ghost use Rattle.unit_tree.specs.Names.{is_among};
 ghost use Rattle.unit_tree.specs.Orders.{outputs_of};
 ghost use Rattle.unit_tree.specs.Ports.{place_needed};
 ghost use Rattle.unit_tree.specs.Routes.{starts_at, routes_of as composition_routes};
-ghost use Rattle.wire_graph.specs.Wiring.{named_of, components_in, outputs_named};
-ghost use Rattle.wire_graph.specs.Origins.{AreTables, HaveDecimals, wired_input, member_behind, member_of};
+ghost use Rattle.wire_graph.specs.Wiring.{named_of, outputs_named};
+ghost use Rattle.wire_graph.specs.Origins.{AreTables, HaveDecimals, wired_input, member_behind};
 ghost use Rattle.wire_graph.specs.Routing.{needs_in, bare, numbered_in, wired_in, wired_among, fed, routed_by, routes_from};
 
 use crate::components::{Component, components, output_keys, target_keys};

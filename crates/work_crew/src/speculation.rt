@@ -1,5 +1,5 @@
 //! How far ahead of the run each instance is stepped, and whether the guesses for it are right.
-ghost use Rattle.std.specs.Prelude.{◌≡◌, ◌≤◌};
+ghost use Rattle.std.specs.Prelude.{◌≤◌};
 ghost use Rattle.guess_board.specs.Guesses.{IsOutlook, seen_of};
 ghost use Rattle.model_rules.specs.Limits.{window_limit};
 

@@ -1,4 +1,3 @@
-use Rattle.std.proofs.Common.{◌≡◌}
 use Rattle.unit_tree.specs.Compositions.{composition_of, run_of}
 use Rattle.unit_tree.specs.Plain.{plain_form}
 use Rattle.run_laws.specs.RunLaws.{RunsHaveOneTrace}

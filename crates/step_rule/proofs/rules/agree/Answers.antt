@@ -1,4 +1,4 @@
-use Rattle.std.proofs.Common.{◌≡◌, ◌-◌, ◌+◌, sym, ◌∙◌, ap, drop, take, length}
+use Rattle.std.proofs.Common.{◌-◌, ◌+◌, sym, ◌∙◌, ap, drop, take, length}
 use Rattle.unit_tree.specs.Negotiation.{least_of}
 use Rattle.step_rule.proofs.LeastLaws.{least_next}
 use Rattle.step_rule.proofs.rules.agree.Goals as goal

@@ -1,4 +1,4 @@
-use Rattle.std.proofs.Common.{◌≡◌, ◌-◌, ◌+◌, sym, ◌∙◌, ap, drop}
+use Rattle.std.proofs.Common.{◌-◌, ◌+◌, sym, ◌∙◌, ap, drop}
 use Rattle.unit_tree.specs.Negotiation.{least_of}
 use Rattle.step_rule.proofs.LeastLaws.{least_of_two, least_next}
 use Rattle.step_rule.proofs.rules.propose.Goals as goal

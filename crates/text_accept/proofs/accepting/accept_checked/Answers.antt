@@ -1,4 +1,4 @@
-use Rattle.std.proofs.Common.{◌≡◌, ◌≤◌, refl, sym, subst, length, ℕ, List}
+use Rattle.std.proofs.Common.{◌≤◌, refl, sym, subst, length, ℕ, List}
 use Rattle.text_accept.proofs.Acceptance.{output_inside}
 use Rattle.text_accept.proofs.SourceCycles.{without_cycle}
 use Rattle.text_accept.proofs.accepting.accept_checked.Goals as goal

@@ -1,4 +1,4 @@
-use Rattle.std.proofs.Common.{◌≡◌, ◌≤◌, sym, subst, length, ℕ, List}
+use Rattle.std.proofs.Common.{◌≤◌, sym, subst, length, ℕ, List}
 use Rattle.unit_check.specs.Rules.{IsFaultOf}
 use Rattle.text_accept.proofs.Acceptance.{refusal_inside}
 use Rattle.text_accept.proofs.accepting.accept_system.Goals as goal

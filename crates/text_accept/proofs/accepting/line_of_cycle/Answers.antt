@@ -1,4 +1,4 @@
-use Rattle.std.proofs.Common.{◌≡◌, sym, ◌∙◌, ap}
+use Rattle.std.proofs.Common.{sym, ◌∙◌, ap}
 use Rattle.text_accept.proofs.CycleLines.{cycle_line, some_line}
 use Rattle.text_accept.proofs.accepting.line_of_cycle.Goals as goal
 use Rattle.unit_tree.specs.Orders.{line_of_output}

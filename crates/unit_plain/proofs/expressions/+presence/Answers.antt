@@ -2,7 +2,6 @@ use Rattle.std.proofs.Common.{◌∙◌, ap, sym, true, false}
 use Rattle.language_laws.proofs.PlainLemmas.{plain-Truth}
 use Rattle.unit_tree.specs.Plain.{plain_expression, presence_of}
 use Rattle.unit_tree.specs.declared.expr.Expr as expr
-use Rattle.unit_tree.specs.declared.expr.Expr.{Expr}
 use Rattle.unit_plain.proofs.ChoiceLaws.{changed, choice_plain}
 use Rattle.unit_plain.proofs.expressions.+presence.Goals as goal
 

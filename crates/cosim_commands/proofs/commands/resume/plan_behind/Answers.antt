@@ -1,9 +1,8 @@
-use Rattle.std.proofs.Common.{◌≡◌, ◌∙◌, ◌-◌, ◌+◌, ◌≤◌, ℕ, List, length, drop, take, arith, refl, subst}
+use Rattle.std.proofs.Common.{◌≡◌, ◌-◌, ℕ, List, length, drop, take, arith, subst}
 use Rattle.std.proofs.lemmas.List.{length-drop, take_all}
 use Rattle.cosim_answers.proofs.RefusedLines.{refused_low}
 use Rattle.cosim_answers.specs.SavedAnswers.{text_behind}
 use Rattle.cosim_answers.specs.Serving.{IsUnaccepted}
-use Rattle.cosim_call.specs.declared.coming.Stopped.{Stopped}
 use Rattle.save_point.proofs.SavedLines.{saved_lines_few}
 use Rattle.text_accept.specs.Accepting.{IsRefusedAt}
 use Rattle.cosim_commands.proofs.commands.resume.plan_behind.Goals as goal

@@ -1,7 +1,6 @@
-use Rattle.std.proofs.Common.{◌≡◌, ◌∙◌, ◌<◌, ℕ, length, false, Option, Some, None, Result, Ok, Err, ap, sym, subst}
+use Rattle.std.proofs.Common.{◌≡◌, ◌∙◌, ◌<◌, length, false, Some, None, Ok, Err, ap, sym, subst}
 use Rattle.std.specs.Prelude.{slice_get}
 use Rattle.std.specs.Option.{option_map}
-use Rattle.fixed_words.specs.declared.types.Fault.{Fault}
 use Rattle.list_laws.proofs.Members.{read_at}
 use Rattle.port_solve.specs.Solved.{HaveStates}
 use Rattle.super_time.specs.LocalTime.{limit_of}

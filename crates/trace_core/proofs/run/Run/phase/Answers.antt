@@ -1,5 +1,5 @@
 use Rattle.std.proofs.Common.{subst}
-use Rattle.trace_core.specs.Runs.{HoldMeanings, RunState}
+use Rattle.trace_core.specs.Runs.{HoldMeanings}
 use Rattle.trace_core.proofs.MeaningLaws.{hold_meanings}
 use Rattle.trace_plan.specs.Plans.{HaveImages, Planned}
 use Rattle.trace_core.proofs.run.Run.phase.Goals as goal

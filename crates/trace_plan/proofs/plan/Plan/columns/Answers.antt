@@ -1,6 +1,5 @@
-use Rattle.std.proofs.Common.{◌≤◌, ◌∙◌, ap, length, subst, sym}
+use Rattle.std.proofs.Common.{◌≤◌, ◌∙◌, length, subst, sym}
 use Rattle.model_rules.specs.Limits.{sample_limit}
-use Rattle.trace_csv.specs.Columns.{columns_of}
 use Rattle.trace_plan.proofs.ColumnLaws.{headers_can_be_printed_lem, rows_can_be_printed_lem}
 use Rattle.trace_plan.proofs.FewColumns.{few_columns}
 use Rattle.trace_plan.specs.Laws.{HasTitles, HasRows}
