@@ -1,13 +1,12 @@
 // The trusted edge: a reader and a writer of std, with a count of their faults.
 ghost use Rattle.std.specs.Prelude.{◌≡◌, OnOk, OnErr};
-ghost use Rattle.std.specs.Io.KnownBytes.{Appends};
+ghost use Rattle.std.specs.Io.{ReadsAtMost};
+ghost use Rattle.std.specs.Io.KnownBytes.{Appends, ReadConsumes};
+ghost use Rattle.cosim_io.specs.Faults.{HasCause, counted};
 ghost use Rattle.cosim_io.specs.Pieces.{AppendsPrefix};
 
 use crate::{Failed, Sink, Source};
 use std::io::{Read, Write};
-
-#[cfg(test)]
-mod tests;
 
 /// A source over any reader of std. Each `Err` of a read is a fault, also `Interrupted`.
 #[derive(Drop)]
@@ -31,7 +30,14 @@ impl<R: Read> Source for StdSource<R> {
 
     ghost faults = { λ source. source.faults };
 
-    fn read(&mut self, into: &mut [u8]) -> Result<usize, Failed> {
+    fn read(&mut self, into: &mut [u8]) -> Result<usize, Failed>
+        ensures within { ReadsAtMost result into.new }
+        ensures taken { ReadConsumes (⟦<StdSource<R> as Source>⟧.left self.old) (⟦<StdSource<R> as Source>⟧.left self.new) result into.new }
+        ensures cause { HasCause (⟦<StdSource<R> as Source>⟧.faults self.old) (⟦<StdSource<R> as Source>⟧.faults self.new) result }
+
+        // What it ensures in addition to every source:
+        ensures one_fault { OnErr result (⟦<StdSource<R> as Source>⟧.faults self.new ≡ counted (⟦<StdSource<R> as Source>⟧.faults self.old)) }
+    {
         match self.inner.read(into) {
             Ok(count) => Ok(count),
             Err(_) => {
@@ -65,7 +71,14 @@ impl<W: Write> Sink for StdSink<W> {
 
     ghost faults = { λ sink. sink.faults };
 
-    fn put(&mut self, piece: &[u8]) -> Result<(), Failed> {
+    fn put(&mut self, piece: &[u8]) -> Result<(), Failed>
+        ensures whole { OnOk result (Appends (⟦<StdSink<W> as Sink>⟧.held self.old) (⟦<StdSink<W> as Sink>⟧.held self.new) piece.now) }
+        ensures front { OnErr result (AppendsPrefix (⟦<StdSink<W> as Sink>⟧.held self.old) (⟦<StdSink<W> as Sink>⟧.held self.new) piece.now) }
+        ensures cause { HasCause (⟦<StdSink<W> as Sink>⟧.faults self.old) (⟦<StdSink<W> as Sink>⟧.faults self.new) result }
+
+        // What it ensures in addition to every sink:
+        ensures one_fault { OnErr result (⟦<StdSink<W> as Sink>⟧.faults self.new ≡ counted (⟦<StdSink<W> as Sink>⟧.faults self.old)) }
+    {
         let written = write_out(&mut self.inner, piece);
         if written.is_err() {
             self.faults = self.faults.saturating_add(1);

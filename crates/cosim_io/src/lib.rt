@@ -24,6 +24,3 @@ pub use null::NullSink;
 pub use sink::Sink;
 pub use source::{Failed, Source};
 pub use whole::{ReadEnd, read_all};
-
-#[cfg(test)]
-mod tests;

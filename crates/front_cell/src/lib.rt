@@ -57,6 +57,3 @@ pub use front::Front;
 pub use laws::{reader_never_goes_back, writer_never_goes_back};
 pub use reader::Reader;
 pub use writer::Writer;
-
-#[cfg(test)]
-mod tests;

@@ -40,6 +40,3 @@ pub use hand::{Hand, make};
 pub use laws::{each_item_once, each_place_taken_once};
 pub use reach::Reach;
 pub use view::{InOrder, View};
-
-#[cfg(test)]
-mod tests;

@@ -1,8 +1,10 @@
-use super::*;
+//! Deques, in one thread and in two.
+
 use std::sync::Wait;
 use std::sync::atomic::{AtomicU64, Ordering};
-use std::test::*;
+use std::test::Fail;
 use std::thread;
+use ticket_deque::{Hand, Reach, each_item_once, each_place_taken_once, make};
 
 const ALL: u64 = 1000;
 

@@ -1,4 +1,6 @@
-use super::*;
+//! Sources and sinks, in memory and over std's streams, and a source that is read to its end.
+
+use cosim_io::{Failed, MemSink, MemSource, ReadEnd, Sink, Source, StdSink, StdSource, read_all};
 use std::alloc::{AllocError, Global};
 use std::test::Fail;
 

@@ -1,9 +1,12 @@
+//! The progress cell, in one thread and in two.
 ghost use Rattle.std.specs.Prelude.{◌≡◌};
 ghost use Rattle.front_cell.specs.Front.{opening};
 
-use super::*;
+use front_cell::{
+    Front, FrontCell, Reader, Writer, reader_never_goes_back, writer_never_goes_back,
+};
 use std::sync::Wait;
-use std::test::*;
+use std::test::Fail;
 use std::thread;
 
 const ALL: u64 = 1000;
