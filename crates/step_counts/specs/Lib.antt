@@ -1,0 +1,5 @@
+pub mod Counts
+pub mod Counting
+pub mod Ranks
+pub mod Fields
+pub mod Summaries
