@@ -7,7 +7,8 @@
 //!
 //! [`Run::open_at`] opens a run at any position at which a run may be, on the trace or not. It goes on from there in the same way.
 //!
-//! The layer above uses [`Plan`] and [`Run`]. What contracts see of a run, and its invariant (`Stands`), are in
+//! The layer above uses [`Plan`] and [`Run`]. A step log also reads the limit of each instance ([`Run::limit`]) and the result of its
+//! step ([`Slot`], `specs/Slots.antt`). What contracts see of a run, and its invariant (`Stands`), are in
 //! `specs/Runs.antt`. `specs/Settling.antt` defines what settling does, and `specs/OpenedAt.antt` the positions at which a run is
 //! opened. They use the definitions of a run in `unit_tree`. `specs/Seats.antt`, `specs/Keeping.antt`, `specs/Accepting.antt`
 //! and `specs/StateWords.antt` describe how the code proceeds; no promise depends on them.

@@ -278,8 +278,8 @@ impl Run {
         self.own += 1;
     }
 
-    /// Returns the step of an instance in the phase: that it is held or was not made yet, or how it ended. Between the call that made
-    /// the last step and [`Run::settle`] this tells how much each instance accepted.
+    /// Returns the step of an instance in the phase: that it is held or wasn't made, or how it ended. After the call that made the
+    /// last step, and before [`Run::settle`], it shows how much each instance accepted.
     pub fn slot(&self, instance: u32) -> Slot
         requires { instance < length self.now.cells }
         ensures { option_map slot_seen (slice_get self.now.cells instance) ≡ Some result }
@@ -288,8 +288,8 @@ impl Run {
     }
 
     /// Returns the limit that an instance sets to the step from here, in ticks of the system, or `None` where it sets none. It runs
-    /// the `max` of the instance, which changes nothing. The step of the instance in this phase must not be made yet, since its unit
-    /// has the state after it then.
+    /// the `max` of the instance, which changes nothing. It requires that the instance hasn't made its step in this phase, since its
+    /// unit has the state after the step then.
     pub fn limit(&mut self, instance: u32) -> Option<u128>
         requires unmade { option_map is_filled (slice_get self.old.cells instance) ≡ Some false }
         ensures limit { option_map (limit_at self.old.stand.at.point.t self.old.stand.ports) (slice_get (standings self.old.plan.run self.old.stand.at) instance) ≡ Some result }
@@ -301,6 +301,7 @@ impl Run {
         match self.units.max_step(instance, time) {
             Ok(Some(local)) => Some(limit(self.plan.factor(instance), self.point.t, local)),
             Ok(None) => None,
+            // A `max` that faults sets no limit, and it ends the run.
             Err(_) => None,
         }
     }
