@@ -14,7 +14,7 @@ use std::alloc::Global;
 #[derive(Clone, Copy, Debug, PartialEq, Eq)]
 pub struct InstanceCounts {
     /// Its number, from 0.
-    pub instance: u32,
+    pub instance: usize,
     /// How many steps it limited.
     pub limited: u64,
     /// How many steps it shortened.
@@ -45,21 +45,21 @@ fn is_longest(limiter: Limiter) -> bool
 }
 
 /// Returns whether the limit of an instance limits a step.
-fn is_limited_by(instance: u32, step: AgreedStep) -> bool
+fn is_limited_by(instance: usize, step: AgreedStep) -> bool
     ensures { result ≡ is_limited_by instance step }
 {
     match step.limiter {
-        Limiter::Instance(other) => other == instance,
+        Limiter::Instance(other) => other as usize == instance,
         Limiter::Stop | Limiter::Longest => false,
     }
 }
 
 /// Returns whether an instance shortens a step.
-fn is_shortened_by(instance: u32, step: AgreedStep) -> bool
+fn is_shortened_by(instance: usize, step: AgreedStep) -> bool
     ensures { result ≡ is_shortened_by instance step }
 {
     match step.shortening {
-        Some(shortening) => shortening.instance == instance,
+        Some(shortening) => shortening.instance as usize == instance,
         None => false,
     }
 }
@@ -113,7 +113,7 @@ pub struct StepCounts {
 
 impl StepCounts {
     /// Returns the counts of no steps, for so many instances.
-    pub fn new(alloc: Global, instances: u32) -> Result<StepCounts, NoMemory>
+    pub fn new(alloc: Global, instances: usize) -> Result<StepCounts, NoMemory>
         ensures { IfOk result (IsCountOf instances []) }
     {
         let mut list = Vec::new(alloc);

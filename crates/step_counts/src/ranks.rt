@@ -6,11 +6,11 @@ ghost use Rattle.step_counts.specs.Ranks.{at_rank, comes_before, faults_of, rank
 use crate::counts::InstanceCounts;
 
 /// Returns how many faults an instance has. `faulted` is the instance that ended the run by its fault, if one did.
-pub(crate) fn faults_of(faulted: Option<u32>, instance: u32) -> u64
+pub(crate) fn faults_of(faulted: Option<u32>, instance: usize) -> u64
     ensures { result ≡ faults_of faulted instance }
 {
     match faulted {
-        Some(other) if other == instance => 1,
+        Some(other) if other as usize == instance => 1,
         _ => 0,
     }
 }

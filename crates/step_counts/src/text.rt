@@ -32,10 +32,10 @@ struct Line<'a> {
 }
 
 /// Returns the name of an instance by its number.
-pub fn name_of(system: &System, instance: u32) -> &[u8]
+pub fn name_of(system: &System, instance: usize) -> &[u8]
     ensures { result.now ≡ name_of system.now instance }
 {
-    match system.instances.get(instance as usize) {
+    match system.instances.get(instance) {
         Some(instance) => instance.name.as_slice(),
         None => &[],
     }
