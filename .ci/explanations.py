@@ -107,6 +107,9 @@ NOTES = {
     "cosim: wheel refused 4, accepted 2, at 60.5,0": ("status", 9),
 }
 
+# The parts of docs/COMMANDS.md with the columns of a step log and of its summary.
+STEP_TABLES = ("cosim-steps", "The summary")
+
 # Notes of counts, with a heading of docs/COMMANDS.md.
 COUNTS = {
     "cosim: rows 4 found 0 own 3 tickets 0 posted 0 back 0 lapsed 0": b"### With workers\n",
@@ -139,6 +142,13 @@ def cases_of_rules():
     tables = re.findall(r"^\| case \| cure \|\n\|---\|---\|\n((?:\|.*\n)+)", read("docs/RULES.md").decode(), re.M)
     rows = [row.strip("| ").split(" | ") for table in tables for row in table.splitlines()]
     return {case: re.sub(r"\[([^]]*)\]\([^)]*\)", r"\1", cure) for case, cure in rows}
+
+
+def columns_of(title):
+    """The columns that a table of docs/COMMANDS.md explains, in the part of this heading."""
+    part = re.split(rf"^##+ {re.escape(title)}\n", read("docs/COMMANDS.md").decode(), flags=re.M)[1]
+    table = re.search(r"^\| column \| has \|\n\|---\|---\|\n((?:\|.*\n)+)", part, re.M)[1]
+    return [name for row in table.splitlines() for name in re.findall(r"`(\w+)`", row.split("|")[1])]
 
 
 def mistakes(trial):
@@ -275,10 +285,29 @@ def notes_of_program(trial):
         trial.tally.compare(f"explain {kind} 99", trial.ask(["./explain", kind, "99"]), (2, note, b""))
 
 
+def columns(trial):
+    """The columns of step logs and of their summaries, as docs/COMMANDS.md has them. A file of such a name is one after `--`."""
+    for title in STEP_TABLES:
+        names = columns_of(title)
+        for name in names:
+            got = trial.ask(["./explain", name])
+            trial.tally.compare(f"explain column {name}", trial.ask(["./explain", "column", name]), got)
+            whole = re.match(rf'column {name}\nhas: [^\n]+\n(.*\n)?more: "{title}" of docs/COMMANDS\.md\n$', got[2].decode(), re.S)
+            trial.try_that(f"explain {name}: {got}", got[:2] == (0, b"") and whole)
+            trial.try_that(f"explain {name}, a line of a table: {got}", b"\n|" not in got[2] and b"](" not in got[2])
+        trial.try_that(f"explain, the columns of {title}: {names}", len(names) == len(set(names)) > 4)
+    trial.try_that("explain accepted has when it is empty", b"are empty where" in trial.ask(["./explain", "accepted"])[2])
+    note = b"there is no column x in docs/COMMANDS.md\n"
+    trial.tally.compare("explain column x", trial.ask(["./explain", "column", "x"]), (2, note, b""))
+    put(trial, "held", MODEL)
+    trial.tally.compare("explain -- held", trial.ask(["./explain", "--", "held"]), (0, b"", b"held: accepted\n"))
+    trial.tally.compare("explain ./held", trial.ask(["./explain", "./held"]), (0, b"", b"./held: accepted\n"))
+
+
 def words_without_form(trial):
     """Words without a form, files that can't be read, and a program that isn't there."""
     form = trial.ask(["./explain", "--help"])[2]
-    for words in ([], ["rule"], ["rule", "x"], ["--rule"], ["--rule", "x"], ["--"], ["cosim:", "line", "x"]):
+    for words in ([], ["rule"], ["rule", "x"], ["column"], ["column", "a", "b"], ["--rule"], ["--rule", "x"], ["--"], ["cosim:", "line", "x"]):
         trial.tally.compare(f"explain {words}", trial.ask(["./explain", *words]), (2, form, b""))
     missing = "No such file or directory"
     for path, why in (("nowhere.cosim", missing), ("docs", "Is a directory"), ("", missing)):
@@ -315,5 +344,5 @@ def explained_environments(trial):
     trial.try_that(f"calls leave {left}", not [path for path in left if os.sep + ".ci" not in path])
 
 
-CHECKS = (mistakes, lines_without_form, guilty_lines, cures_of_cases, reasons, explained_files, pages, notes_of_program)
+CHECKS = (mistakes, lines_without_form, guilty_lines, cures_of_cases, reasons, explained_files, pages, notes_of_program, columns)
 CHECKS += (words_without_form, explained_environments)

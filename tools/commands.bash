@@ -32,8 +32,11 @@ cosim_command nodes model '--seed N --rounds 1..100000' 'the trace by two nodes 
 cosim_command gen '' '--seed N --instances 1..64 --rows 1..100000' 'a model that is made from a number'
 cosim_command bench '' '--seed N --instances 1..64 --rows 1..100000' 'figures of the trace of that model'
 
-# The columns of the step log that cosim-steps prints.
-cosim_steps_columns=time,index,proposed,limited_by,agreed,shortened_by,accepted,redone,held
+# What cosim-steps reads, its option, and the columns of the step log and of the summary that it prints.
+cosim_reads[cosim-steps]=model
+cosim_options[cosim-steps]='[--summary]'
+cosim_log_columns=time,index,proposed,limited_by,agreed,shortened_by,accepted,redone,held
+cosim_summary_columns=name,limited,shortened,least_limit,faults
 
 # The most that the instances of `gen` and `bench` times their rows may be.
 cosim_most_words=1000000

@@ -32,13 +32,14 @@ _cosim() {
   mapfile -t COMPREPLY < <(compgen -W "$choices" -- "$word")
 }
 
-# Completes the words of cosim-steps: it takes none, but those that the script answers.
+# Completes the words of cosim-steps: its option, and those that the script answers.
 _cosim_steps() {
   local word=$2 before=$3 choices=
   if [[ "$before" = *[\<\>] ]]; then
     compopt -o default 2>/dev/null
   elif ((COMP_CWORD == 1)); then
-    choices='help --help --version'
+    cosim_read_options cosim-steps
+    choices="${!cosim_values[*]} help --help --version"
   fi
   mapfile -t COMPREPLY < <(compgen -W "$choices" -- "$word")
 }

@@ -213,9 +213,9 @@ lacks_trace() {
   [[ -f $1 && -r $1 ]] && ! grep -aqE '^[[:blank:]]*trace[[:blank:]]*(#.*)?$' <"$1"
 }
 
-# Shows a call that reads the files on standard input.
+# Shows a call that reads the files on standard input, as what it reads.
 show_call() {
-  local call
+  local reads=$1 call
   printf -v call '%q ' "$0" "${formed[@]}"
   if [ "${#files[@]},${formed[*]}" = 2,verify ]; then
     printf -v call '%s< <(cat %q; echo trace; cat %q)' "$call" "${files[@]}"
@@ -226,17 +226,26 @@ show_call() {
   else
     call+='< FILE'
   fi
-  say "the ${cosim_reads[${formed[0]}]} comes on standard input: $call"
+  say "the $reads comes on standard input: $call"
 }
 
-# Judges the words of cosim-steps, which takes none.
+# Judges the words of cosim-steps, which takes its option alone.
 judge_words_of_steps() {
-  if (($# == 0)); then return; fi
-  if (($# == 1)) && [ -f "$1" ]; then
-    files=("$1")
-  else
-    blame "cosim-steps takes no words, and here is $(shown "$1")"
-  fi
+  cosim_read_options cosim-steps
+  while (($#)) && [ -z "$fault" ]; do
+    if is_option "$1"; then
+      judge_option "$1"
+    elif [[ $1 = -?* ]]; then
+      blame_option cosim-steps "$1"
+    elif [ -f "$1" ]; then
+      files+=("$1")
+    elif ((${#1} > 2)) && is_near_option "$1"; then
+      blame_option cosim-steps "$1"
+    else
+      blame "cosim-steps takes no words but $(joined ' or ' "${!cosim_values[@]}"), and here is $(shown "$1")"
+    fi
+    shift
+  done
 }
 
 # Says of a call of cosim-steps what `hint` says of one of cosim.
@@ -244,9 +253,9 @@ hint_steps() {
   judge_words_of_steps "$@"
   if [ -n "$fault" ]; then say "$fault"; fi
   if ((${#files[@]})); then
-    say "the model comes on standard input: $(printf '%q < %q' "$0" "${files[0]}")"
+    show_call "${cosim_reads[cosim-steps]}"
   elif [[ -z "$fault" && -t 0 ]]; then
-    say "the model is read from the terminal, up to Ctrl-D on a line of its own"
+    say "the ${cosim_reads[cosim-steps]} is read from the terminal, up to Ctrl-D on a line of its own"
   fi
 }
 
@@ -259,7 +268,7 @@ hint() {
   judge_words "$@"
   if [ -n "$fault" ]; then say "$fault"; fi
   if ((${#files[@]})); then
-    show_call
+    show_call "${cosim_reads[${formed[0]}]}"
   elif [[ -z "$fault" && -n "${cosim_reads[$1]}" && -t 0 ]]; then
     say "the ${cosim_reads[$1]} is read from the terminal, up to Ctrl-D on a line of its own"
   fi

@@ -17,6 +17,9 @@ SOURCES: Dict[str, Tuple[str, str, Optional[str]]] = {
     "fault": (LANGUAGE, "Faults", "number"),
 }
 
+# The parts of docs/COMMANDS.md with the columns of a step log and of its summary.
+STEP_TABLES = ("cosim-steps", "The summary")
+
 # The section of docs/RULES.md with the table of forms, which the cure of rule 4 names.
 FORMS = "Rules 1 to 7:"
 
@@ -73,12 +76,28 @@ def read_titles() -> Dict[int, Row]:
     return {int(found[1]): row for row, found in numbered if found}
 
 
-def mentions(text: str, kind: str, number: int) -> Iterator[str]:
-    """The paragraphs and the items of lists that speak of a status or a fault by its number. An item of a numbered list
-    says little without the others."""
+def mentions(text: str, pattern: str) -> Iterator[str]:
+    """The paragraphs and the items of lists that have a pattern. An item of a numbered list says little without the others."""
     for block in re.split(r"\n(?=\n|- |\d+\. )", text):
-        if re.search(rf"\b{kind} {number}\b", block, re.I) and not re.match(r"\s*(\||```|\d+\. )", block):
+        if re.search(pattern, block, re.I) and not re.match(r"\s*(\||```|\d+\. )", block):
             yield block.strip()
+
+
+@functools.lru_cache(maxsize=None)
+def step_columns() -> Dict[str, Tuple[str, Row]]:
+    """The columns of a step log and of its summary by their names, each with the heading and the row of its table."""
+    found = ((title, row) for title in STEP_TABLES for row in rows(section(COMMANDS, title), "column"))
+    return {name: (title, row) for title, row in found for name in re.findall(r"`(\w+)`", row["column"])}
+
+
+def page_of_column(name: str) -> str:
+    """What docs/COMMANDS.md has on such a column; nothing where there is none of this name."""
+    if name not in step_columns():
+        return ""
+    title, row = step_columns()[name]
+    lines = [f"{column}: {cell}" for column, cell in row.items() if column != "column"]
+    lines += mentions(section(COMMANDS, title), f"`{name}`")
+    return without_links("\n".join([f"column {name}", *lines, f'more: "{title}" of {COMMANDS}']), COMMANDS)
 
 
 def without_links(text: str, document: str) -> str:
@@ -101,7 +120,7 @@ def page(kind: str, number: int) -> str:
     if not text or first is None:
         return text
     lines = [f"{column}: {cell}" for row in rows_of(text, first, number) for column, cell in row.items() if column != first]
-    lines += mentions(text, kind, number)
+    lines += mentions(text, rf"\b{kind} {number}\b")
     if not lines:
         return ""
     return without_links("\n".join([f"{kind} {number}", *lines, f'more: "{title}" of {document}']), document)

@@ -2,7 +2,7 @@
 import shlex
 from typing import Dict, Mapping, Sequence
 
-from ..documents import RULES, SOURCES, page
+from ..documents import COMMANDS, RULES, SOURCES, page, page_of_column
 from ..errors import ProgramFailed, Refused, Unjoinable, refused
 from ..joining import join_texts
 from ..program import ask, ask_first_byte
@@ -11,11 +11,12 @@ from ..sources import Source
 from ..statuses import Status
 from ..streams import clean_name, files_of, note, read_file, write_output
 from .inputs import Input, has_groups, read_kind
-from .notes import asked_for, counts_asked_for
+from .notes import asked_for, column_asked_for, counts_asked_for
 from .refusals import WITHOUT_FORM, shown
 
-# How each note of the program begins.
+# How each note of the program begins, and the word before the name of a column.
 OF_PROGRAM = "cosim:"
+COLUMN = "column"
 
 
 def describe_refusal(error: Refused, text: bytes) -> str:
@@ -88,8 +89,17 @@ def explain_number(kind: str, number: int) -> int:
     return Status.ACCEPTED
 
 
+def explain_column(name: str) -> int:
+    text = page_of_column(name)
+    if not text:
+        note(f"there is no {COLUMN} {name} in {COMMANDS}")
+        return Status.NO_FORM
+    write_output(text)
+    return Status.ACCEPTED
+
+
 def main(document: str, words: Sequence[str]) -> int:
-    """Explains what the words ask for. Words that are no note, and begin as none does, are files. Returns the status."""
+    """Explains what the words ask for. Words that are no note and no column, and begin as none does, are files. Returns the status."""
     if list(words) in (["help"], ["--help"], ["-h"]):
         write_output(document.strip())
         return Status.ACCEPTED
@@ -100,8 +110,11 @@ def main(document: str, words: Sequence[str]) -> int:
     if counts:
         write_output(counts)
         return Status.ACCEPTED
+    column = column_asked_for(" ".join(words))
+    if column:
+        return explain_column(column)
     paths = files_of(words)
-    if not paths or words[0] in (*SOURCES, OF_PROGRAM):
+    if not paths or words[0] in (*SOURCES, COLUMN, OF_PROGRAM):
         note(document.strip())
         return Status.NO_FORM
     return explain_file(paths[0]) if len(paths) == 1 else explain_files(paths)

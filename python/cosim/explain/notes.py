@@ -1,9 +1,10 @@
-"""What a note of the program asks for: the page of its rule, fault or status, or the part of docs/COMMANDS.md on its counts."""
+"""What words ask for that name no file: a note the page of its rule, fault or status, or the part of docs/COMMANDS.md on its counts;
+and a column of a step log, or of its summary, what that part has on it."""
 import functools
 import re
 from typing import List, Optional, Tuple
 
-from ..documents import COMMANDS, rows, section
+from ..documents import COMMANDS, rows, section, step_columns
 
 # What asks for a page: a number, with its kind before it or without, or a note on a rule or a fault.
 ASKS = re.compile(
@@ -48,3 +49,9 @@ def counts_asked_for(words: str) -> Optional[str]:
     note = re.sub(r"^cosim: ", "", words)
     title = next((title for begin, title in COUNTS.items() if re.match(rf"{begin} \d", note)), None)
     return title and section(COMMANDS, title)
+
+
+def column_asked_for(words: str) -> Optional[str]:
+    """The column that words ask for, with the word `column` before it or by itself."""
+    asked = re.fullmatch(r"(column )?(\w+)", words)
+    return asked[2] if asked and (asked[1] or asked[2] in step_columns()) else None
