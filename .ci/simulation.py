@@ -223,10 +223,12 @@ def solving_order(members: list[Member], places: list[Place]) -> list[Place]:
 
 
 class Ending(NamedTuple):
-    """How a run ends: by which status, and what its note says before the point, if there is one."""
+    """How a run ends: by which status, what its note says before the point, if there is one, and the member whose fault it is, if it
+    is one."""
 
     status: int
     what: str = ""
+    faulted: Optional[str] = None
 
 
 class Position(NamedTuple):
@@ -265,9 +267,14 @@ class Stand(NamedTuple):
 class Ended(Exception):
     """The run ends at a position."""
 
-    def __init__(self, status: int, what: str = "") -> None:
+    def __init__(self, status: int, what: str = "", faulted: Optional[str] = None) -> None:
         super().__init__(what)
-        self.ending = Ending(status, what)
+        self.ending = Ending(status, what, faulted)
+
+
+def fault_of(member: Member, number: int, place: str) -> Ended:
+    """The end by a fault of a member."""
+    return Ended(FAULTED, f"fault {number} of {member.name} {place}", member.name)
 
 
 def solve(system: System, states: list[State]) -> Signals:
@@ -285,7 +292,7 @@ def solve(system: System, states: list[State]) -> Signals:
     for number, member in enumerate(system.members):
         for name in member.unit.outputs:
             if (number, name) in faults:
-                raise Ended(FAULTED, f"fault {faults[number, name]} of {member.name} output {name}")
+                raise fault_of(member, faults[number, name], f"output {name}")
     return signals
 
 
@@ -296,7 +303,7 @@ def limits(system: System, at: Position, signals: Signals) -> list[Optional[int]
         try:
             found.append(member.limit(at.time, state, signals))
         except Faulted as fault:
-            raise Ended(FAULTED, f"fault {fault.number} of {member.name} max") from None
+            raise fault_of(member, fault.number, "max") from None
     return found
 
 
@@ -314,7 +321,7 @@ def moves(system: System, at: Position, signals: Signals, length: int) -> Iterat
         try:
             yield member, member.move(at.time, length, state, signals)
         except Faulted as fault:
-            raise Ended(FAULTED, f"fault {fault.number} of {member.name} step") from None
+            raise fault_of(member, fault.number, "step") from None
 
 
 def agree(system: System, at: Position, signals: Signals) -> tuple[AgreedStep, list[Optional[Moved]]]:
