@@ -11,7 +11,7 @@ from .joining import join
 from .models import Model, Saved, Verdict
 from .outcomes import Fault, Outcome, RowBudgetSpent, RunEnded, StepRefused, ZeroBudgetSpent
 from .reports import report
-from .steps import Step, StepLog
+from .steps import Step, StepCounts, StepLog, StepSummary
 from .sweeps import Sweep, SweepRow, sweep
 from .traces import Column, Difference, Row, Trace
 
@@ -32,8 +32,10 @@ __all__ = [
     "RunEnded",
     "Saved",
     "Step",
+    "StepCounts",
     "StepLog",
     "StepRefused",
+    "StepSummary",
     "Sweep",
     "SweepRow",
     "Trace",

@@ -21,6 +21,9 @@ error InexactFloat. `frame.attrs["floats"]` has the names of the columns that be
 
 A frame of a step log has its columns in the same types: times are as the index, names are texts, `accepted` is Int64, `redone` is
 bool, and `held` is int64. Where nobody accepted less, `shortened_by` is None and `accepted` is pandas.NA.
+
+A frame of a summary has the names of its lines as its index. Its counts are int64. `least_limit` is as the times of a trace, with None,
+or pandas.NA of Int64 where seconds are whole, or NaN of floats, where nothing is limited.
 """
 from decimal import Decimal
 from fractions import Fraction
@@ -29,7 +32,7 @@ from typing import Iterable, List, Optional, Sequence, Union
 import pandas
 
 from .errors import InexactFloat, UnfitValue
-from .steps import OF_SECONDS, StepLog
+from .steps import LEAST_LIMIT, OF_SECONDS, StepLog, StepSummary
 from .traces import INDEX, TIME, Trace
 from .values import Value, decimals_of, exact
 
@@ -87,6 +90,22 @@ def frame_of_steps(log: StepLog, floats: bool) -> pandas.DataFrame:
     }
     frame = pandas.DataFrame(data, index=pandas.Index(seconds([step.time for step in log], TIME), name=TIME))
     frame.attrs["floats"] = [TIME, *OF_SECONDS] if as_floats else []
+    return frame
+
+
+def frame_of_summary(summary: StepSummary, floats: bool) -> pandas.DataFrame:
+    """The frame of a summary. Its least limits are as the times of a trace."""
+    as_floats, decimals = floats and bool(summary.resolution), summary.resolution
+    ticks = [None if each.least_limit is None else int(each.least_limit * 10**decimals) for each in summary]
+    limits: List[Optional[Value]] = [each if each is None or not decimals else exact(each, decimals) for each in ticks]
+    data = {
+        "limited": pandas.array([each.limited for each in summary], dtype="int64"),
+        "shortened": pandas.array([each.shortened for each in summary], dtype="int64"),
+        LEAST_LIMIT: array_of(limits, f"Fixed {decimals}" if decimals else "Int64", True, as_floats, LEAST_LIMIT),
+        "faults": pandas.array([each.faults for each in summary], dtype="int64"),
+    }
+    frame = pandas.DataFrame(data, index=pandas.Index([each.name for each in summary], name="name", dtype="object"))
+    frame.attrs["floats"] = [LEAST_LIMIT] if as_floats else []
     return frame
 
 

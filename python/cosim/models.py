@@ -18,7 +18,7 @@ from .running import Table, Watch, ask_program, judge, read_trace, started, trac
 from .settings import Template, literal_of_stop, nearest, paths_of, set_in_instance, set_in_unit, template_of, value_of_literal
 from .sources import FileLine, Source
 from .statuses import Status
-from .steps import StepLog, read_log
+from .steps import StepLog, StepSummary, read_log, read_summary
 from .streams import Path, read_at_most, read_file
 from .traces import Row, Trace, header_of, require_header
 from .values import Given, Seconds, Value, literal_of, seconds_of, value_of_word
@@ -341,6 +341,14 @@ class Model:
         NoProgram where there is no program cosim-steps.
         """
         return read_log(self.runnable, self.source_of_runnable, self.system.resolution)
+
+    def step_summary(self) -> StepSummary:
+        """The summary of the step log, as `cosim-steps --summary` prints it: how many steps each component limits and shortens, with
+        those first that are to be looked at first.
+
+        A run that ends early has a summary too, of the steps up to its end. Exceptions are as by `steps`.
+        """
+        return read_summary(self.runnable, self.source_of_runnable, self.system.resolution)
 
     def rows(self, workers: int = 0, window: Optional[int] = None, guess: Optional[str] = None) -> Iterator[Row]:
         """The rows of the trace as they come. The run is stopped where they are read no further.

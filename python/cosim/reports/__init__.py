@@ -28,7 +28,8 @@ def report(
     Without `trace` the model is run. `names` are the columns that the page draws at first: without them all, up to 64. Where
     `other` is given the page lists what `trace.diff(other, tolerance)` lists, and calls the two traces by `labels`.
 
-    With `steps` the page has the step log of the model: True asks the program cosim-steps for it.
+    With `steps` the page has the step log of the model and its summary. The program cosim-steps is asked for both by True, and for the
+    summary alone where `steps` is a log.
 
     The page has plotly.js in itself, and requires a browser with JavaScript. ImportError where the package plotly isn't there,
     UnknownName where there is no such column or the two traces have other columns, UnfitValue where a tolerance is none, and OSError
@@ -39,7 +40,8 @@ def report(
     if isinstance(names, str):
         raise UnfitValue(f"names: {names!r} is one name; write [{names!r}]")
     log = model.steps() if steps is True else steps or None
-    page = page_of(model, model.run() if trace is None else trace, other, tolerance, names, labels, log)
+    summary = None if log is None else model.step_summary()
+    page = page_of(model, model.run() if trace is None else trace, other, tolerance, names, labels, log, summary)
     if path is not None:
         write_at_once(path, lambda file: file.write(page))
     return page

@@ -6,7 +6,7 @@ import plotly
 from plotly.offline import get_plotlyjs_version
 
 from ..models import Model
-from ..steps import StepLog
+from ..steps import StepLog, StepSummary
 from ..streams import clean_name
 from ..traces import Difference, Trace
 from ..values import Given
@@ -45,6 +45,7 @@ def page_of(
     names: Optional[Sequence[str]],
     labels: Tuple[str, str],
     log: Optional[StepLog] = None,
+    summary: Optional[StepSummary] = None,
 ) -> bytes:
     """The page as bytes. The same model and traces make the same page."""
     system = model.system
@@ -63,7 +64,7 @@ def page_of(
         section("plots", "Plots", element("noscript", element("p", text(NO_SCRIPT)))),
         "" if other is None else differences_section(found, tolerance, labels),
         section("rows", "Rows"),
-        "" if log is None else steps_section(log),
+        "" if log is None else steps_section(log, summary),
         components_section(model, system),
         units_section(system),
         text_section(model),

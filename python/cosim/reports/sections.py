@@ -1,11 +1,11 @@
 """The sections of a page that a script doesn't write: how the run ended, what the model is, and its text."""
-from typing import Iterable, Iterator, List, Sequence, Tuple
+from typing import Iterable, Iterator, List, Optional, Sequence, Tuple
 
 from ..canonical import Instance, Port, System, Unit
 from ..errors import title_of_fault
 from ..models import Model
 from ..outcomes import STOPPED, UNKNOWN, Outcome
-from ..steps import COLUMNS, StepLog
+from ..steps import COLUMNS, SUMMARY_COLUMNS, StepLog, StepSummary
 from ..traces import Trace
 from .markup import Part, details, element, facts, lines, section, table, text
 from .picture import picture
@@ -75,16 +75,23 @@ def connections_section(system: System) -> Part:
     return section("connections", "Connections", shown, listed)
 
 
-def steps_section(log: StepLog) -> Part:
-    """The steps by their causes, and the lines of the log."""
+def summary_part(summary: StepSummary) -> Part:
+    """The lines of a summary."""
+    hint = element("p", "The first three lines are about all steps, the stop and the longest step. Look at the first component first.")
+    return hint + table(SUMMARY_COLUMNS, [[text(field) for field in record] for record in summary.records])
+
+
+def steps_section(log: StepLog, summary: Optional[StepSummary]) -> Part:
+    """The summary, if there is one, the steps by their causes, and the lines of the log."""
     rows = [
         [text(each.cause), text(f"{each.steps:,}"), *(text(seconds(time, log.resolution)) for time in (each.seconds, each.shortest, each.longest))]
         for each in log.causes
     ]
     causes = table(("what limits the step", "steps", "seconds in all", "shortest", "longest"), rows)
     listed = [[text(field) for field in record] for record in log.records[:MOST_STEPS]]
-    summary = f"The step log: {len(log):,} lines" + (f", of which the first {MOST_STEPS:,} are listed" if len(log) > MOST_STEPS else "")
-    return section("steps", "Steps", causes, details(summary, table(COLUMNS, listed)))
+    title = f"The step log: {len(log):,} lines" + (f", of which the first {MOST_STEPS:,} are listed" if len(log) > MOST_STEPS else "")
+    parts = [] if summary is None else [summary_part(summary)]
+    return section("steps", "Steps", *parts, causes, details(title, table(COLUMNS, listed)))
 
 
 def components_section(model: Model, system: System) -> Part:
