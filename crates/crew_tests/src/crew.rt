@@ -60,8 +60,8 @@ fn tickets_of_each_lane_are_counted(rt: HostRuntime) -> Result<(), Fail> {
     let mut out = MemSink::new(alloc, 64, Vec::new(alloc))?;
     let report = run_crew(rt, alloc, plan, 1, 4, Policy::Hold, &mut out, &Waits)?;
     assert!(rt; report.found >= 2);
-    assert!(rt; report.tickets >= 2);
-    assert!(rt; report.posted >= 2);
+    assert!(rt; report.tickets >= 4);
+    assert!(rt; report.posted >= 4);
     Ok(())
 }
 
