@@ -7,7 +7,7 @@ use Rattle.event_runs.specs.Offers.{Offers, Pace, agreed_by, proposal_at}
 use Rattle.event_runs.specs.Readings.{offers_of, pace_of}
 use Rattle.step_log.specs.Negotiated.{least_reply, limiter_of, shortener_of, trial_of}
 use Rattle.step_log.specs.Steps.{agreement_by, end_before, held_in, step_at, step_by, unless}
-use Rattle.step_log.specs.declared.step.AgreedStep.{AgreedStep}
+use Rattle.step_counts.specs.declared.step.AgreedStep.{AgreedStep}
 use Rattle.trace_core.specs.Runs.{IsPhase, IsTrial, RunState, Stands, first_end}
 use Rattle.trace_core.specs.declared.phase.Phase.TheVariants.{Ended, Trial}
 use Rattle.trace_rows.proofs.FreshRuns.{By, phase_by}

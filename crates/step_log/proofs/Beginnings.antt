@@ -10,7 +10,7 @@ use Rattle.list_laws.proofs.Members.{at_place}
 use Rattle.step_log.proofs.Agreements.{zipped_few}
 use Rattle.step_log.specs.Negotiated.{IsBegun, limiter_of, limits_of}
 use Rattle.step_log.specs.Steps.{limited_to, limiter_or}
-use Rattle.step_log.specs.declared.step.Limiter.TheVariants as limiter
+use Rattle.step_counts.specs.declared.step.Limiter.TheVariants as limiter
 use Rattle.trace_core.proofs.LoopLaws.{ToldFrom, told_all, told_none, told_some}
 use Rattle.trace_core.specs.Runs.{Held, Empty, RunState, cell_of, is_filled}
 use Rattle.trace_core.specs.declared.phase.Phase.TheVariants.{Ended}

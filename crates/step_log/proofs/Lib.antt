@@ -1,7 +1,9 @@
 pub mod AgreedSteps
 pub mod Agreements
 pub mod Beginnings
-pub mod EventLogs
+pub mod EventReports
 pub mod LineText
 pub mod LogKept
+pub mod StepLists
 pub mod StepsMade
+pub mod SummaryKept

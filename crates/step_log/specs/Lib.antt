@@ -1,5 +1,5 @@
 pub mod Steps
 pub mod Lines
 pub mod Negotiated
-pub mod Logs
+pub mod Reports
 pub mod Laws

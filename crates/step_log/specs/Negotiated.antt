@@ -4,8 +4,8 @@ use Rattle.std.specs.Option.{option_map}
 use Rattle.event_runs.specs.Offers.{Steps, agreed_by}
 use Rattle.event_runs.specs.Readings.{offers_of, pace_of}
 use Rattle.step_log.specs.Steps.{limiter_by, limits_by, shortening_by, unless}
-use Rattle.step_log.specs.declared.step.Limiter.{Limiter}
-use Rattle.step_log.specs.declared.step.Shortening.{Shortening}
+use Rattle.step_counts.specs.declared.step.Limiter.{Limiter}
+use Rattle.step_counts.specs.declared.step.Shortening.{Shortening}
 use Rattle.trace_core.specs.Runs.{RunState, is_filled}
 use Rattle.unit_tree.specs.Successor.{first_told, step_end_of, steps_by}
 

@@ -2,10 +2,10 @@
 use Rattle.std.specs.Prelude.{ℕ, suc, ◌-◌, ◌==◌, nat_lt, List, [], ◌∷◌, map, zip, if◌then◌else◌, Option, Some, None, Result, Ok}
 use Rattle.std.specs.List.{count_by, enumerate_from}
 use Rattle.event_runs.specs.Offers.{Limits, Offers, Pace, Steps, agreed_by, limit_with, proposal_at}
-use Rattle.step_log.specs.declared.step.AgreedStep.{AgreedStep}
-use Rattle.step_log.specs.declared.step.Limiter.{Limiter}
-use Rattle.step_log.specs.declared.step.Limiter.TheVariants as limiter
-use Rattle.step_log.specs.declared.step.Shortening.{Shortening}
+use Rattle.step_counts.specs.declared.step.AgreedStep.{AgreedStep}
+use Rattle.step_counts.specs.declared.step.Limiter.{Limiter}
+use Rattle.step_counts.specs.declared.step.Limiter.TheVariants as limiter
+use Rattle.step_counts.specs.declared.step.Shortening.{Shortening}
 use Rattle.unit_tree.specs.Components.{Moved}
 use Rattle.unit_tree.specs.Negotiation.{is_held, reply_of}
 use Rattle.unit_tree.specs.Ports.{first_some}

@@ -1,6 +1,6 @@
-ghost use Rattle.step_log.specs.Laws.{LogsAreRead};
+ghost use Rattle.step_log.specs.Laws.{StepsAreRead};
 
-/// A law: the log of the trace of a system's plain form is that of the system's own trace.
-pub fn logs_are_read()
-    ensures { LogsAreRead }
+/// A law: the agreed steps of the trace of a system's plain form are those of the system's own trace.
+pub fn steps_are_read()
+    ensures { StepsAreRead }
 {}

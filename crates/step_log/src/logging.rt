@@ -1,32 +1,23 @@
 //! A run that writes its step log.
-ghost use Rattle.std.specs.Prelude.{◌≡◌, false, length, IfOk, OnErr, OnOk};
+ghost use Rattle.std.specs.Prelude.{◌≡◌, IfOk, OnErr, OnOk};
 ghost use Rattle.std.specs.Io.KnownBytes.{Appends};
 ghost use Rattle.cosim_io.specs.Pieces.{AppendsPrefix};
 ghost use Rattle.step_log.specs.Lines.{line_if, log_header};
-ghost use Rattle.step_log.specs.Logs.{AppendsLogPrefix, ReportsLog, log_line};
-ghost use Rattle.trace_core.specs.Runs.{AreCellsFull, RunState, Stands, is_ended};
+ghost use Rattle.step_log.specs.Reports.{AppendsReportPrefix, ReportsSteps, plain_step};
+ghost use Rattle.step_log.specs.declared.report.StepReport.TheVariants as report;
+ghost use Rattle.trace_core.specs.Runs.{Stands};
 ghost use Rattle.trace_rows.specs.Faults.{TellsFault};
-ghost use Rattle.trace_rows.specs.Passing.{AreStepsThere, IsFresh, WentOn};
+ghost use Rattle.trace_rows.specs.Passing.{IsFresh, WentOn};
 
-use crate::negotiating::{agreement, limiter};
-use crate::step::AgreedStep;
+use crate::report::RunEnd;
 use crate::text::{header, write_line};
+use crate::trying::{end_of, finish_step, try_step};
 use cosim_io::Sink;
-use serial_run::step_all;
 use std::alloc::Global;
 use std::sync::Arc;
-use trace_core::{Phase, Plan, Run, Settle};
+use step_counts::AgreedStep;
+use trace_core::{Phase, Plan, Run};
 use trace_rows::CrewFault;
-use unit_tree::{Ending, Point};
-
-/// How and where a logged run ended.
-#[derive(Clone, Copy, Debug, PartialEq, Eq)]
-pub struct LogEnd {
-    /// How the trace ended.
-    pub outcome: Ending,
-    /// The last point of the trace, its time in ticks.
-    pub last: Point,
-}
 
 /// Writes the header of a log as one piece.
 fn put_header<O: Sink>(out: &mut O) -> Result<(), CrewFault>
@@ -57,25 +48,6 @@ fn put_line<O: Sink>(
     Ok(())
 }
 
-/// Settles a trial, all of whose steps are made, and makes and settles the redo where one is due. Returns whether there is a next
-/// row.
-fn finish_step(run: &mut Run, instances: u32) -> bool
-    requires each { instances ≡ length run.old.plan.run.members }
-    requires going { is_ended run.old.phase ≡ false }
-    requires full { AreCellsFull run.old.cells }
-    ensures went { (r : RunState) → Stands r → IsFresh r → is_ended r.phase ≡ false → AreStepsThere r run.old → WentOn r run.new result }
-    ensures stands { Stands run.new }
-{
-    match run.settle() {
-        Settle::Row => true,
-        Settle::Ended => false,
-        Settle::Redo => {
-            step_all(run, instances);
-            matches!(run.settle(), Settle::Row)
-        }
-    }
-}
-
 /// Makes the step from a row, and makes it again where a redo is due. Writes its line as one piece, where the components agree on
 /// one. Returns whether there is a next row.
 fn log_step<O: Sink>(
@@ -88,31 +60,31 @@ fn log_step<O: Sink>(
     requires fresh { IsFresh run.old }
     requires stands { Stands run.old }
     ensures went { IfOk result (WentOn run.old run.new) }
+    ensures alone { OnOk result (run.new.found ≡ run.old.found) }
     ensures stands { OnOk result (Stands run.new) }
-    ensures whole { OnOk result (Appends (O.held out.old) (O.held out.new) (log_line plan.now.system plan.now.run run.old.stand)) }
-    ensures front { OnErr result (AppendsPrefix (O.held out.old) (O.held out.new) (log_line plan.now.system plan.now.run run.old.stand)) }
+    ensures whole { OnOk result (Appends (O.held out.old) (O.held out.new) (line_if plan.now.system (plain_step plan.now.run run.old.stand))) }
+    ensures front { OnErr result (AppendsPrefix (O.held out.old) (O.held out.new) (line_if plan.now.system (plain_step plan.now.run run.old.stand))) }
     ensures cause { TellsFault (O.faults out.old) (O.faults out.new) result }
 {
     let Phase::Trial { h } = run.phase() else {
         return Ok(false);
     };
-    let instances = plan.instances();
-    let limiter = limiter(plan, run, h);
-    step_all(run, instances);
-    // Called for its clauses, which state that the run follows from its plan.
-    let _ = run.phase();
-    let step = agreement(plan, run, h, limiter);
+    let step = try_step(plan, run, h);
     put_line(plan, step, line, out)?;
-    Ok(finish_step(run, instances))
+    Ok(finish_step(run, plan.instances()))
 }
 
 /// Runs a plan in the calling thread, and writes the log of its steps: the header, and a line for each step that the components
 /// agree on, each as one piece. Reports how the trace ended.
 ///
 /// Fails with [`CrewFault::WriteFault`] exactly where a write failed. After a failure the written bytes are a prefix of the log.
-pub fn log_steps<O: Sink>(alloc: Global, plan: Arc<Plan>, out: &mut O) -> Result<LogEnd, CrewFault>
-    ensures whole { IfOk result (ReportsLog plan.value.system (O.held out.old) (O.held out.new)) }
-    ensures front { OnErr result (AppendsLogPrefix plan.value.system (O.held out.old) (O.held out.new)) }
+pub(crate) fn log_steps<O: Sink>(
+    alloc: Global,
+    plan: Arc<Plan>,
+    out: &mut O,
+) -> Result<RunEnd, CrewFault>
+    ensures whole { IfOk result (ReportsSteps report.Log plan.value.system (O.held out.old) (O.held out.new)) }
+    ensures front { OnErr result (AppendsReportPrefix report.Log plan.value.system (O.held out.old) (O.held out.new)) }
     ensures cause { TellsFault (O.faults out.old) (O.faults out.new) result }
 {
     // All memory of the run except for its lines is taken before anything is written.
@@ -123,8 +95,5 @@ pub fn log_steps<O: Sink>(alloc: Global, plan: Arc<Plan>, out: &mut O) -> Result
     let Phase::Ended(outcome) = run.phase() else {
         unreachable!()
     };
-    Ok(LogEnd {
-        outcome,
-        last: run.point(),
-    })
+    Ok(end_of(&run, outcome))
 }

@@ -6,7 +6,7 @@ ghost use Rattle.step_log.specs.Steps.{held_in, step_at};
 ghost use Rattle.trace_core.specs.Runs.{AreCellsFull, Stands};
 ghost use Rattle.trace_core.specs.declared.phase.Phase.TheVariants.{Trial};
 
-use crate::step::{AgreedStep, Limiter, Shortening};
+use step_counts::{AgreedStep, Limiter, Shortening};
 use step_rule::{is_held, reply};
 use trace_core::{Plan, Run, Slot};
 

@@ -1,12 +1,13 @@
 //! The text of a line.
 ghost use Rattle.std.specs.Prelude.{◌≡◌, ◌≤◌, ◌∷◌, ◌++◌, [], OnOk};
-ghost use Rattle.step_log.specs.Lines.{accepted_text, limiter_text, log_header, name_of, shortener_text, step_line, truth_text};
+ghost use Rattle.fixed_words.specs.Texts.{truth_text};
+ghost use Rattle.step_log.specs.Lines.{accepted_text, limiter_text, log_header, shortener_text, step_line};
 ghost use Rattle.unit_tree.specs.WellFormed.{resolution_of};
 
-use crate::step::{AgreedStep, Limiter, Shortening};
 use cosim_call::append_all;
 use fixed_words::NoMemory;
 use itoa::Buffer;
+use step_counts::{AgreedStep, Limiter, Shortening, name_of};
 use super_time::seconds_text;
 use unit_tree::System;
 
@@ -20,22 +21,12 @@ pub(crate) fn header() -> &'static [u8]
     HEADER
 }
 
-/// Returns the name of an instance by its number.
-fn name_of(system: &System, instance: u32) -> &[u8]
-    ensures { result.now ≡ name_of system.now instance }
-{
-    match system.instances.get(instance as usize) {
-        Some(instance) => instance.name.as_slice(),
-        None => &[],
-    }
-}
-
 /// Returns the field for what limits a step.
 fn limiter_text(system: &System, limiter: Limiter) -> &[u8]
     ensures { result.now ≡ limiter_text system.now limiter }
 {
     match limiter {
-        Limiter::Instance(instance) => name_of(system, instance),
+        Limiter::Instance(instance) => name_of(system, instance as usize),
         Limiter::Stop => b"stop",
         Limiter::Longest => b"longest",
     }
@@ -64,7 +55,7 @@ fn put_shortening(
         line,
         &[
             b",",
-            name_of(system, shortening.instance),
+            name_of(system, shortening.instance as usize),
             b",",
             accepted.format(shortening.accepted).as_bytes(),
             b",",

@@ -1,1 +1,1 @@
-pub mod LogLaws
+pub mod ReportLaws

@@ -4,10 +4,10 @@ use Rattle.cosim_call.specs.Answers.{Answer}
 use Rattle.steps_command.specs.StepAnswers.{IsStepsAnswer}
 
 -- For each list of words and each input there is an answer.
-abbrev pub EveryLogIsAnswered : Type 0
-EveryLogIsAnswered = (words : List (List ℕ)) (text : List ℕ) → (answer : Answer) × IsStepsAnswer words text answer
+abbrev pub EveryCallIsAnswered : Type 0
+EveryCallIsAnswered = (words : List (List ℕ)) (text : List ℕ) → (answer : Answer) × IsStepsAnswer words text answer
 
 -- There is no other.
-abbrev pub NoLogIsAnsweredTwice : Type 0
-NoLogIsAnsweredTwice =
+abbrev pub NoCallIsAnsweredTwice : Type 0
+NoCallIsAnsweredTwice =
     (words : List (List ℕ)) (text : List ℕ) (one other : Answer) → IsStepsAnswer words text one → IsStepsAnswer words text other → one ≡ other

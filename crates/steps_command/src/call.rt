@@ -1,11 +1,11 @@
-//! The call, in three steps: the plan of the text's system, the log of its run, and how this ended.
-ghost use Rattle.std.specs.Prelude.{Some};
+//! The call: what the words ask for, the plan of the text's system, the report of the steps of its run, and how this ended.
+ghost use Rattle.std.specs.Prelude.{◌≡◌, Some};
 ghost use Rattle.cosim_call.specs.Calls.{Promises, stream, streams};
 ghost use Rattle.cosim_call.specs.Coming.{Comes, Serves};
 ghost use Rattle.command_line.specs.Words.{bytes_of};
 ghost use Rattle.model_rules.specs.Limits.{text_limit};
-ghost use Rattle.steps_command.specs.Logging.{Logs, TellsLogged};
-ghost use Rattle.steps_command.specs.StepAnswers.{IsLogAnswer, IsStepsAnswer, StepsUsage, steps_input};
+ghost use Rattle.steps_command.specs.Reporting.{Reports, TellsReported};
+ghost use Rattle.steps_command.specs.StepAnswers.{IsReportAnswer, IsStepsAnswer, StepsUsage, report_asked, steps_input};
 
 use cosim_call::{Served, Status, Stopped, finish, read_input, tell};
 use cosim_commands::{ending_notes, plan_of, status_of};
@@ -13,15 +13,31 @@ use cosim_io::{Sink, Source};
 use model_rules::LONGEST_TEXT;
 use std::alloc::Global;
 use std::sync::Arc;
-use step_log::{LogEnd, log_steps};
+use step_log::{RunEnd, StepReport, report_steps};
 use trace_core::Plan;
 use trace_rows::CrewFault;
 
-/// Logs the steps of a plan.
-fn log_plan<O: Sink>(alloc: Global, plan: &Arc<Plan>, out: &mut O) -> Result<LogEnd, Stopped>
-    ensures { Logs plan.now.value.system (stream (O.held out.old) (O.faults out.old)) (stream (O.held out.new) (O.faults out.new)) result }
+/// Returns what the words of a command line ask for: the log, or with `--summary` the summary. Other words ask for nothing.
+fn report_asked(words: &[String]) -> Option<StepReport>
+    ensures { result ≡ report_asked (bytes_of words.now) }
 {
-    match log_steps(alloc, Arc::clone(plan)?, out) {
+    match words {
+        [] => Some(StepReport::Log),
+        [word] if word.as_str() == "--summary" => Some(StepReport::Summary),
+        _ => None,
+    }
+}
+
+/// Reports the steps of a plan's run.
+fn report_plan<O: Sink>(
+    alloc: Global,
+    plan: &Arc<Plan>,
+    report: StepReport,
+    out: &mut O,
+) -> Result<RunEnd, Stopped>
+    ensures { Reports report plan.now.value.system (stream (O.held out.old) (O.faults out.old)) (stream (O.held out.new) (O.faults out.new)) result }
+{
+    match report_steps(alloc, Arc::clone(plan)?, report, out) {
         Ok(end) => Ok(end),
         Err(CrewFault::WriteFault) => Err(Stopped::WriteFault),
         Err(CrewFault::NoMemory) => Err(Stopped::NoMemory),
@@ -29,8 +45,8 @@ fn log_plan<O: Sink>(alloc: Global, plan: &Arc<Plan>, out: &mut O) -> Result<Log
 }
 
 /// Reports a run that came to its end.
-fn reported(alloc: Global, plan: &Plan, end: LogEnd) -> Result<Served, Stopped>
-    ensures { TellsLogged plan.now.system end result }
+fn reported(alloc: Global, plan: &Plan, end: RunEnd) -> Result<Served, Stopped>
+    ensures { TellsReported plan.now.system end result }
 {
     let notes = ending_notes(alloc, plan, end.outcome, end.last)?;
     Ok(Served {
@@ -39,29 +55,39 @@ fn reported(alloc: Global, plan: &Plan, end: LogEnd) -> Result<Served, Stopped>
     })
 }
 
-/// Logs a text, or refuses it.
-fn serve<O: Sink>(alloc: Global, text: &[u8], out: &mut O) -> Result<Served, Stopped>
-    ensures { Serves (IsLogAnswer text.now) (stream (O.held out.old) (O.faults out.old)) (stream (O.held out.new) (O.faults out.new)) result }
+/// Reports the steps of a text's run, or refuses the text.
+fn serve<O: Sink>(
+    alloc: Global,
+    report: StepReport,
+    text: &[u8],
+    out: &mut O,
+) -> Result<Served, Stopped>
+    ensures { Serves (IsReportAnswer report text.now) (stream (O.held out.old) (O.faults out.old)) (stream (O.held out.new) (O.faults out.new)) result }
 {
     let plan = plan_of(alloc, text)?;
-    let end = log_plan(alloc, &plan, out)?;
+    let end = report_plan(alloc, &plan, report, out)?;
     reported(alloc, &plan, end)
 }
 
-/// Logs what is left in the source, or refuses it.
-fn come<S: Source, O: Sink>(alloc: Global, source: &mut S, out: &mut O) -> Result<Served, Stopped>
-    ensures { Comes (Some text_limit) IsLogAnswer
+/// Reports the steps of the run of what is left in the source, or refuses it.
+fn come<S: Source, O: Sink>(
+    alloc: Global,
+    report: StepReport,
+    source: &mut S,
+    out: &mut O,
+) -> Result<Served, Stopped>
+    ensures { Comes (Some text_limit) (IsReportAnswer report)
         (stream (S.left source.old) (S.faults source.old)) (stream (S.left source.new) (S.faults source.new))
         (stream (O.held out.old) (O.faults out.old)) (stream (O.held out.new) (O.faults out.new))
         result }
 {
     let text = read_input(alloc, source, Some(LONGEST_TEXT))?;
-    serve(alloc, &text, out)
+    serve(alloc, report, &text, out)
 }
 
-/// The program: logs the steps of the model that it reads from the source. `words` are those after the program's name; it takes
-/// none, and reports the usage where there are some. The log goes to the output, and the lines of how the run ended to the notes.
-/// Returns the status of the call.
+/// The program: reports the steps of the model that it reads from the source. `words` are those after the program's name: none for
+/// the log, or `--summary` for the summary. For other words it reports the usage. The report goes to the output, and the lines of
+/// how the run ended to the notes. Returns the status of the call.
 pub fn cosim_steps<S: Source, O: Sink, N: Sink>(
     alloc: Global,
     words: &[String],
@@ -75,9 +101,9 @@ pub fn cosim_steps<S: Source, O: Sink, N: Sink>(
         result }
     ensures usage { StepsUsage (bytes_of words.now) result }
 {
-    if !words.is_empty() {
+    let Some(report) = report_asked(words) else {
         return tell(notes, b"cosim: usage\n", Status::Usage);
-    }
-    let came = come(alloc, source, out);
+    };
+    let came = come(alloc, report, source, out);
     finish(alloc, notes, came)
 }

@@ -1,7 +1,7 @@
-ghost use Rattle.steps_command.specs.Laws.{EveryLogIsAnswered, NoLogIsAnsweredTwice};
+ghost use Rattle.steps_command.specs.Laws.{EveryCallIsAnswered, NoCallIsAnsweredTwice};
 
 /// A law: for each list of words and each input there is exactly one answer.
-pub fn one_log()
-    ensures some { EveryLogIsAnswered }
-    ensures once { NoLogIsAnsweredTwice }
+pub fn one_answer()
+    ensures some { EveryCallIsAnswered }
+    ensures once { NoCallIsAnsweredTwice }
 {}

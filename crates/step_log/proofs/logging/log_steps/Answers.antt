@@ -3,7 +3,8 @@ use Rattle.std.specs.Io.KnownBytes.{Appends}
 use Rattle.cosim_io.specs.Pieces.{AppendsPrefix}
 use Rattle.list_laws.proofs.Options.{on_err}
 use Rattle.step_log.proofs.LogKept.{front_header, front_logged, log_done, logged_first, logged_next, reports_log}
-use Rattle.step_log.specs.Logs.{log_line}
+use Rattle.step_log.specs.Lines.{line_if}
+use Rattle.step_log.specs.Reports.{plain_step}
 use Rattle.trace_core.specs.Runs.{IsOpened}
 use Rattle.trace_plan.specs.Plans.{Planned}
 use Rattle.trace_rows.proofs.DriveLaws.{composed_of, ended_by, going_on}
@@ -37,7 +38,7 @@ returns-in_err-log_step-clause-front g c =
     (front_logged plan from c.rows.run (g.O.Sink.held c.args.out.now) (g.O.Sink.held c.rows.out) (g.O.Sink.held c.log_step.new.out)
     (g.O.Sink.faults c.args.out.now) (g.O.Sink.faults c.rows.out) (composed_of plan from c.in_ok-run.run' opened c.in_ok-run.ensures.stands) refl
     c.rows.invariant
-    (subst (λ (p : Planned). AppendsPrefix (g.O.Sink.held c.rows.out) (g.O.Sink.held c.log_step.new.out) (log_line p.system p.run c.rows.run.stand))
+    (subst (λ (p : Planned). AppendsPrefix (g.O.Sink.held c.rows.out) (g.O.Sink.held c.log_step.new.out) (line_if p.system (plain_step p.run c.rows.run.stand)))
     c.deref.ensures c.in_err-log_step.ensures.front))
 
 pub returns-in_err-log_step-clause-cause : goal.returns-in_err-log_step-clause-cause
@@ -74,8 +75,8 @@ rows-preserved g c =
     let on = going_on c.rows.run c.log_step.new.run c.in_ok-log_step.field-0 c.if-branch.true c.in_ok-log_step.ensures.went in
     logged_next plan from c.rows.run c.log_step.new.run (g.O.Sink.held c.args.out.now) (g.O.Sink.held c.rows.out) (g.O.Sink.held c.log_step.new.out)
     (g.O.Sink.faults c.args.out.now) (g.O.Sink.faults c.rows.out) (g.O.Sink.faults c.log_step.new.out) given c.rows.invariant on
-    c.in_ok-log_step.ensures.stands
-    (subst (λ (p : Planned). Appends (g.O.Sink.held c.rows.out) (g.O.Sink.held c.log_step.new.out) (log_line p.system p.run c.rows.run.stand))
+    c.in_ok-log_step.ensures.stands c.in_ok-log_step.ensures.alone
+    (subst (λ (p : Planned). Appends (g.O.Sink.held c.rows.out) (g.O.Sink.held c.log_step.new.out) (line_if p.system (plain_step p.run c.rows.run.stand)))
     c.deref.ensures c.in_ok-log_step.ensures.whole)
     (c.in_ok-log_step.ensures.cause.same (λ e. absurd (cc)))
 
@@ -90,14 +91,15 @@ returns-clause-whole g c =
     log_done plan from c.rows.run c.log_step.new.run (g.O.Sink.held c.args.out.now) (g.O.Sink.held c.rows.out) (g.O.Sink.held c.log_step.new.out)
     (g.O.Sink.faults c.args.out.now) (g.O.Sink.faults c.rows.out) given c.rows.invariant
     (ended_by c.rows.run c.log_step.new.run c.in_ok-log_step.field-0 c.if-branch.false c.in_ok-log_step.ensures.went) c.in_ok-log_step.ensures.stands
-    (subst (λ (p : Planned). Appends (g.O.Sink.held c.rows.out) (g.O.Sink.held c.log_step.new.out) (log_line p.system p.run c.rows.run.stand))
+    c.in_ok-log_step.ensures.alone
+    (subst (λ (p : Planned). Appends (g.O.Sink.held c.rows.out) (g.O.Sink.held c.log_step.new.out) (line_if p.system (plain_step p.run c.rows.run.stand)))
     c.deref.ensures c.in_ok-log_step.ensures.whole) in
-    reports_log plan from c.log_step.new.run (g.O.Sink.held c.args.out.now) (g.O.Sink.held c.log_step.new.out)
-    (record { outcome = c.in-Ended.outcome; last = c.point.result }) (composed_of plan from c.in_ok-run.run' opened c.in_ok-run.ensures.stands) refl given
-    done (sym c.phase.ensures.phase ∙ c.in-Ended.is) c.point.ensures
+    reports_log plan from c.log_step.new.run (g.O.Sink.held c.args.out.now) (g.O.Sink.held c.log_step.new.out) c.in-Ended.outcome
+    c.end_of.result (composed_of plan from c.in_ok-run.run' opened c.in_ok-run.ensures.stands) refl given
+    done (sym c.phase.ensures.phase ∙ c.in-Ended.is) c.end_of.ensures
 
 pub returns-clause-cause : goal.returns-clause-cause
 returns-clause-cause g c =
     tells_none (g.O.Sink.faults c.args.out.now) (g.O.Sink.faults c.log_step.new.out)
-    (record { outcome = c.in-Ended.outcome; last = c.point.result })
+    c.end_of.result
     (c.in_ok-log_step.ensures.cause.same (λ e. absurd (cc)) ∙ c.rows.invariant.same)

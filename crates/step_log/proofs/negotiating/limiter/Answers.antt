@@ -3,7 +3,7 @@ use Rattle.std.proofs.lemmas.Bool.{eq-eqb, ne_eqb}
 use Rattle.std.specs.Prelude.{slice_get, if◌then◌else◌}
 use Rattle.std.specs.Option.{option_eq, option_map}
 use Rattle.step_log.proofs.Beginnings.{limit_found, no_limit, option_differs, option_same, pass_limit}
-use Rattle.step_log.specs.declared.step.Limiter.TheVariants as limiter
+use Rattle.step_counts.specs.declared.step.Limiter.TheVariants as limiter
 use Rattle.super_time.specs.declared.point.Point.{Point}
 use Rattle.trace_core.specs.Runs.{RunState}
 use Rattle.trace_plan.specs.Plans.{Planned}

@@ -2,7 +2,8 @@ use Rattle.std.proofs.Common.{◌≡◌, ◌∙◌, ℕ, List, [], ◌∷◌, �
 use Rattle.std.specs.Fmt.{decimal}
 use Rattle.std.specs.Prelude.{nat_lt}
 use Rattle.step_log.proofs.LineText.{ended, whole_line}
-use Rattle.step_log.specs.Lines.{accepted_text, limiter_text, shortener_text, step_line, truth_text}
+use Rattle.fixed_words.specs.Texts.{truth_text}
+use Rattle.step_log.specs.Lines.{accepted_text, limiter_text, shortener_text, step_line}
 use Rattle.super_time.specs.Seconds.{seconds_text_of}
 use Rattle.trace_csv.specs.Lines.{line_of}
 use Rattle.step_log.proofs.text.write_line.Goals as goal

@@ -1,23 +1,24 @@
-use Rattle.std.proofs.Common.{◌≡◌, [], string_bytes, Some}
+use Rattle.std.proofs.Common.{◌≡◌, ◌∙◌, Some, None, sym}
 use Rattle.command_line.specs.Words.{bytes_of}
 use Rattle.cosim_call.proofs.CallLaws.{promises_kept}
 use Rattle.cosim_call.proofs.UsageLaws.{never_usage}
 use Rattle.cosim_call.specs.Calls.{Streams, stream}
 use Rattle.model_rules.specs.Limits.{text_limit}
-use Rattle.steps_command.proofs.LogLaws.{log_kept, log_usage, no_words, some_words, usage_kept, usage_told}
-use Rattle.steps_command.specs.StepAnswers.{IsLogAnswer}
+use Rattle.steps_command.proofs.ReportLaws.{report_kept, report_usage, usage_kept, usage_told}
+use Rattle.steps_command.specs.StepAnswers.{IsReportAnswer, report_asked}
 use Rattle.steps_command.proofs.call.cosim_steps.Goals as goal
 
-pub returns-then-not-is_empty : goal.returns-then-not-is_empty
-returns-then-not-is_empty g c =
+pub returns-in_default : goal.returns-in_default
+returns-in_default g c =
     let source = stream (g.S.Source.left c.args.source.now) (g.S.Source.faults c.args.source.now) in
     let out = stream (g.O.Sink.held c.args.out.now) (g.O.Sink.faults c.args.out.now) in
     let notes = stream (g.N.Sink.held c.args.notes.now) (g.N.Sink.faults c.args.notes.now) in
     let notes' = stream (g.N.Sink.held c.tell.new.notes) (g.N.Sink.faults c.tell.new.notes) in
-    let some : (bytes_of c.args.words.now ≡ []) → ⊥ = some_words (λ word. string_bytes word) c.args.words.now c.if-not-is_empty.ensures in
+    let asked = report_asked (bytes_of c.args.words.now) in
+    let none : asked ≡ None = sym c.report_asked.ensures ∙ c.in_default.is in
     record {
-      headline = usage_kept (bytes_of c.args.words.now) source out notes notes' c.tell.result some c.tell.ensures;
-      usage = usage_told (bytes_of c.args.words.now) notes notes' c.tell.result some c.tell.ensures;
+      headline = usage_kept asked source out notes notes' c.tell.result none c.tell.ensures;
+      usage = usage_told asked notes notes' c.tell.result none c.tell.ensures;
     }
 
 pub returns : goal.returns
@@ -30,11 +31,13 @@ returns g c =
     let notes' = stream (g.N.Sink.held c.finish.new.notes) (g.N.Sink.faults c.finish.new.notes) in
     let before : Streams = record { source = source; out = out; notes = notes } in
     let now : Streams = record { source = source'; out = out'; notes = notes' } in
-    let none : bytes_of c.args.words.now ≡ [] = no_words (λ word. string_bytes word) c.args.words.now c.if-not-is_empty.ensures in
+    let asked = report_asked (bytes_of c.args.words.now) in
+    let report = c.in-Some.report in
+    let is : asked ≡ Some report = sym c.report_asked.ensures ∙ c.in-Some.is in
     record {
-      headline = log_kept (bytes_of c.args.words.now) before now c.finish.result none
-          (promises_kept (Some text_limit) IsLogAnswer before now c.come-came.result c.finish.result c.come-came.ensures c.finish.ensures.told);
-      usage = log_usage (bytes_of c.args.words.now) c.finish.result none
-          (never_usage (Some text_limit) IsLogAnswer source source' out out' notes notes' c.come-came.result c.finish.result c.come-came.ensures
-          c.finish.ensures.told);
+      headline = report_kept asked report before now c.finish.result is
+          (promises_kept (Some text_limit) (IsReportAnswer report) before now c.come-came.result c.finish.result c.come-came.ensures c.finish.ensures.told);
+      usage = report_usage asked report c.finish.result is
+          (never_usage (Some text_limit) (IsReportAnswer report) source source' out out' notes notes' c.come-came.result c.finish.result
+          c.come-came.ensures c.finish.ensures.told);
     }

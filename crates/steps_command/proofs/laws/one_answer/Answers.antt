@@ -1,5 +1,5 @@
-use Rattle.steps_command.proofs.LogLaws.{every_log_is_answered, no_log_is_answered_twice}
-use Rattle.steps_command.proofs.laws.one_log.Goals as goal
+use Rattle.steps_command.proofs.ReportLaws.{every_call_is_answered, no_call_is_answered_twice}
+use Rattle.steps_command.proofs.laws.one_answer.Goals as goal
 
 pub returns : goal.returns
-returns c = record { some = every_log_is_answered; once = no_log_is_answered_twice }
+returns c = record { some = every_call_is_answered; once = no_call_is_answered_twice }
