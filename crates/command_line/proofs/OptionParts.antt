@@ -10,7 +10,7 @@ use Rattle.std.proofs.lemmas.List.Sorted.{All-permutation, IsPermutation-map}
 use Rattle.std.proofs.lemmas.Option.{cond_some, none-some, same_Some}
 use Rattle.command_line.specs.Commands.{command_with}
 use Rattle.command_line.specs.Laws.{IsOneOption, OtherWordsHaveNoForm, PartsHaveNoOrder, joined_parts}
-use Rattle.command_line.specs.Options.{◌>>=◌, given_by, given_of, options_of}
+use Rattle.command_line.specs.Options.{◌>>=◌, given_by, given_of, option_of, options_of}
 use Rattle.command_line.specs.declared.options.CommandOption.{CommandOption}
 use Rattle.command_line.specs.declared.options.CommandOption.TheVariants.{Report}
 use Rattle.command_line.proofs.OptionLaws.{report_read}

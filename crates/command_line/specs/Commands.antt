@@ -2,7 +2,7 @@
 use Rattle.std.specs.Prelude.{ℕ, Bool, true, false, nat_le, List, [], ◌∷◌, ◌≤◌, length, codes, IfSome, Option, Some, None, if◌then◌else◌, ⊤}
 use Rattle.std.specs.Option.{option_map, unwrap_or}
 use Rattle.std.specs.Str.{bytes_eq}
-use Rattle.model_rules.specs.Limits.{round_limit, text_limit, window_limit, worker_limit}
+use Rattle.model_rules.specs.Limits.{round_limit, rows_limit, text_limit, window_limit, worker_limit}
 use Rattle.guess_board.specs.declared.guesses.Policy.TheVariants.{Hold}
 use Rattle.command_line.specs.Generations.{Asked, CanGive, asked_by}
 use Rattle.command_line.specs.Options.{◌>>=◌, given_by, is_given_none}

@@ -3,7 +3,7 @@ use Rattle.std.specs.Prelude.{◌≡◌, ℕ, true, false, List, [], ◌∷◌, 
 use Rattle.command_line.specs.Commands.{command_of}
 use Rattle.command_line.specs.Options.{given_by, no_options, number_of_word}
 use Rattle.command_line.specs.Ranges.{required_within, within, within_or}
-use Rattle.command_line.specs.declared.commands.Command.TheVariants.{Run, Check, Print, Upgrade, Replay, Gen, Bench, Resume, Verify, Stimulus, Flatten}
+use Rattle.command_line.specs.declared.commands.Command.TheVariants.{Run, Check, Print, Upgrade, Replay, Gen, Bench, Save, Resume, Verify, Stimulus, Flatten}
 use Rattle.command_line.specs.declared.commands.Command.TheVariants.{Nodes}
 use Rattle.command_line.specs.declared.options.Given.{Given}
 use Rattle.guess_board.specs.declared.guesses.Policy.TheVariants.{Hold, Linear}
