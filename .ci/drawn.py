@@ -39,12 +39,12 @@ def connections_of(draw: Random, units: list[list[str]], kinds: list[int], versi
     return lines
 
 
-def text_of_seed(seed: int) -> bytes:
-    """The text of a seed."""
+def text_of_seed(seed: int, instances: tuple[int, int] = (1, 5)) -> bytes:
+    """The text of a seed, with a number of instances in this range."""
     draw = Random(seed)
     version = draw.choice((1, 2))
     units = [unit_of(draw, f"U{number}", version) for number in range(draw.randint(1, 3))]
-    kinds = [draw.randrange(len(units)) for _ in range(draw.randint(1, 5))]
+    kinds = [draw.randrange(len(units)) for _ in range(draw.randint(*instances))]
     lines = [f"cosim {version}", *(line for unit in units for line in unit)]
     for number, kind in enumerate(kinds):
         lines += [f"instance i{number} : U{kind}", f"p = {draw.randint(1, 9)}", "end"]
