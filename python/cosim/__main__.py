@@ -10,10 +10,10 @@
         two differ. A TOLERANCE is a number for all columns, or NAME=NUMBER for one
 
 MODEL is a text of a model, with groups or without. With --steps the lengths of its steps are there too, with what limits
-them, and a page has their summary; that requires the program cosim-steps. The status is that of `cosim run`: 0 where the run came to its stop, and 6 to
-9 where it ended early, with the program's note; then the rows up to there are drawn. It is 1 where a file can't be read, 2 where
-the words have no form, 5 where FILE can't be written, and 69 where the program or a package is missing. Of two runs it is the
-status of the first that ended early. A difference changes no status.
+them, and a page has their summary; that requires the program cosim-steps. The status is that of `cosim run`: 0 where the run
+came to its stop, and 6 to 9 where it ended early, with the program's note; then the rows up to there are drawn. It is 1 where a
+file can't be read, 2 where the words have no form, 5 where FILE can't be written, and 69 where the program or a package is
+missing. Of two runs it is the status of the first that ended early. A difference changes no status.
 """
 import argparse
 import importlib
