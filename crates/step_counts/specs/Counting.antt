@@ -1,4 +1,4 @@
--- How the code counts. No promise depends on these definitions.
+-- How the code counts. `HasRoom` is what a call requires; no promise depends on the other definitions.
 use Rattle.std.specs.Prelude.{◌<◌, ◌+◌, ℕ, Bool, if◌then◌else◌, Some}
 use Rattle.std.specs.List.{AllByRecursion}
 use Rattle.model_rules.specs.Limits.{rows_limit}

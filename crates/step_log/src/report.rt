@@ -32,8 +32,8 @@ pub struct RunEnd {
     pub own: u64,
 }
 
-/// Runs a plan in the calling thread, and writes the report of its steps. The header and each line of the log are one piece, and
-/// the summary is one piece. Reports how the trace ended.
+/// Runs a plan in the calling thread, and writes the report of its steps. The header and each line of the log are one piece each,
+/// and the summary is one piece. Reports how the trace ended.
 ///
 /// Fails with [`CrewFault::WriteFault`] exactly where a write failed. After a failure the written bytes are a prefix of the report.
 pub fn report_steps<O: Sink>(

@@ -1,5 +1,5 @@
-//! The program `cosim-steps`: it reads a model text from standard input as `cosim run` does, and writes the log of its steps to
-//! standard output as CSV, and its notes to standard error.
+//! The program `cosim-steps`: it reads a model text from standard input as `cosim run` does, and writes the log of its steps, or
+//! with `--summary` their summary, to standard output as CSV, and its notes to standard error.
 //!
 //! [`main`] calls `cosim_steps` of `steps_command`, whose contract is a record of five clauses. The words of the command line are read
 //! before it, and the status that it returns is that of the process.
@@ -17,7 +17,7 @@ fn main(rt: HostRuntime) -> ExitCode {
     let mut notes = StdSink::new(rt.stderr());
     let status = match words(&rt) {
         Ok(words) => cosim_steps(rt.alloc(), &words, &mut source, &mut out, &mut notes),
-        // It takes no words, and these are some.
+        // Its only word is `--summary`, so words that aren't UTF-8 have no form.
         Err(error) if error.kind() == io::ErrorKind::InvalidData => {
             tell(&mut notes, b"cosim: usage\n", Status::Usage)
         }
