@@ -1,0 +1,3 @@
+pub mod StepAnswers
+pub mod Reporting
+pub mod Laws
