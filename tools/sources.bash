@@ -9,7 +9,7 @@ declare -A record_of=([cosim]=sources.sha256 [cosim-steps]=steps-sources.sha256)
 declare -A tried_by=([cosim]="run" [cosim-steps]="")
 
 no_kit="the Rattle kit, which proves and builds the program, isn't on this machine: there is no command rt. \
-\"What it depends on\" in $here/README.md tells of it"
+\"What it depends on\" in $here/README.md explains it"
 
 # The crates of the repository that each crate depends on, by crates.txt; and those of the chosen program in the order in which
 # they are proved, lowest first.
