@@ -77,7 +77,7 @@ def connections_section(system: System) -> Part:
 
 def summary_part(summary: StepSummary) -> Part:
     """The lines of a summary."""
-    hint = element("p", "The first three lines are about all steps, the stop and the longest step. The components follow, in the order in which to look at them.")
+    hint = element("p", "The first three lines are about all steps, the stop and the longest step. Look at the components in this order.")
     return hint + table(SUMMARY_COLUMNS, [[text(field) for field in record] for record in summary.records])
 
 
