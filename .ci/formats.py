@@ -101,7 +101,7 @@ def random_texts(trial):
         before, after = (trial.call([trial.program, "print"], each) for each in (text, formatted))
         accepted += before[0] == 0
         trial.try_that(f"random text {number}, another model: {text!r}", before[0] != 0 or before == after)
-    trial.try_that(f"{accepted} random texts are accepted", accepted > RANDOM_TEXTS // 5)
+    trial.try_that(f"{accepted} random texts are accepted", accepted > RANDOM_TEXTS // 10)
 
 
 def formatted_files(trial):
