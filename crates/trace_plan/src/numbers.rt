@@ -104,6 +104,23 @@ fn row_limit(system: &System) -> u64
     }
 }
 
+/// Returns the greatest number of rows of a system's trace, as [`Plan::row_limit`](crate::Plan::row_limit) does. A caller that serves
+/// only small systems asks before it makes a plan.
+pub fn row_limit_of(checked: &Checked) -> u64
+    ensures { result ≡ (run_of checked.now).row_budget }
+{
+    row_limit(checked.system())
+}
+
+/// Returns how many instances a system has, as [`Plan::instances`](crate::Plan::instances) does.
+pub fn instances_of(checked: &Checked) -> u32
+    ensures { result ≡ length (run_of checked.now).members }
+{
+    // Called for its clauses, which state what holds of a judged system.
+    let _ = checked.system();
+    checked.source().instances.len() as u32
+}
+
 /// Returns the numbers of the run of a checked system.
 pub(crate) fn numbers_of(checked: &Checked) -> Numbers
     ensures { AreNumbersOf checked.now (run_of checked.now) result }

@@ -1,5 +1,5 @@
 ghost use Rattle.std.specs.Prelude.{◌≡◌, map, length, IsSome, IfOk, IfSome};
-ghost use Rattle.unit_exec.specs.Showing.{Shows, ShowsBy, ShowStates};
+ghost use Rattle.unit_exec.specs.Showing.{HasSteadyLimit, Shows, ShowsBy, ShowStates};
 ghost use Rattle.fixed_words.specs.Types.{AreDecimals};
 ghost use Rattle.unit_tree.specs.Components.{start_word};
 ghost use Rattle.unit_vm.specs.Checking.{IsValid};
@@ -24,6 +24,8 @@ pub struct Image {
     /// to it.
     first_shown: Option<(u32, Ty)>,
     code: Code,
+    /// The limit, where it is the same in each state.
+    steady_limit: Option<u64>,
     /// For each output that only returns a state: the slot of this state, and its type.
     shown: Vec<Option<(u32, Ty)>>,
     start: List<i64>,
@@ -34,13 +36,13 @@ impl Model for Image {
     ghost use Rattle.std.specs.Prelude.{◌≡◌};
     ghost use Rattle.unit_exec.specs.Images.{Compiled, HasStarts};
     ghost use Rattle.std.specs.Prelude.{IfSome};
-    ghost use Rattle.unit_exec.specs.Showing.{Shows, ShowStates};
+    ghost use Rattle.unit_exec.specs.Showing.{HasSteadyLimit, Shows, ShowStates};
 
     ghost Value = { Compiled };
 
     ghost view = { λ i. record { program = i.code; start = i.start; start_inputs = i.start_inputs } };
 
-    ghost invariant = { λ i. HasStarts (record { program = i.code; start = i.start; start_inputs = i.start_inputs }) × ShowStates i.code i.shown.items × IfSome i.first_shown (Shows i.code 0) };
+    ghost invariant = { λ i. HasStarts (record { program = i.code; start = i.start; start_inputs = i.start_inputs }) × ShowStates i.code i.shown.items × IfSome i.first_shown (Shows i.code 0) × IfSome i.steady_limit (HasSteadyLimit i.code) };
 }
 
 impl Image {
@@ -89,6 +91,13 @@ impl Image {
             return self.first_shown;
         }
         *self.shown.get(output as usize)?
+    }
+
+    /// Returns the limit in each state, if it is the same in all of them.
+    pub(crate) fn steady_limit(&self) -> Option<u64>
+        ensures { IfSome result (HasSteadyLimit self.now.program) }
+    {
+        self.steady_limit
     }
 }
 
@@ -155,6 +164,16 @@ fn first_of(shown: &[Option<(u32, Ty)>]) -> Option<(u32, Ty)>
     *shown.first()?
 }
 
+/// Returns the limit of a program, if its part does nothing but push a limit.
+fn steady_limit(program: &Program) -> Option<u64>
+    ensures { IfSome result (HasSteadyLimit program.now) }
+{
+    match program.limit.as_ref()?.as_slice() {
+        [Instruction::Push(limit), Instruction::Limit] if *limit >= 0 => Some(*limit as u64),
+        _ => None,
+    }
+}
+
 /// Returns the image of a unit that may be compiled.
 fn image_of(alloc: Global, unit: &Unit, params: &[i64]) -> Result<Image, NoMemory>
     requires { IsCompilable unit.now params.now }
@@ -163,9 +182,11 @@ fn image_of(alloc: Global, unit: &Unit, params: &[i64]) -> Result<Image, NoMemor
     let program = program(alloc, unit, params)?;
     let code = valid_code(alloc, &program)?;
     let shown = shown_states(alloc, code.program())?;
+    let steady_limit = steady_limit(code.program());
     Ok(Image {
         first_shown: first_of(&shown),
         code,
+        steady_limit,
         shown,
         start: start_states(alloc, unit.states.as_slice())?,
         start_inputs: start_inputs(alloc, unit.inputs.as_slice())?,

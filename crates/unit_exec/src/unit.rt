@@ -102,6 +102,9 @@ impl Unit {
         ensures kept { self.new ≡ self.old }
     {
         let image: &Image = &self.image;
+        if let Some(limit) = image.steady_limit() {
+            return Ok(Some(limit));
+        }
         if image.code().program().limit.is_none() {
             return Ok(None);
         }

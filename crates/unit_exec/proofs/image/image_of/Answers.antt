@@ -1,9 +1,10 @@
 use Rattle.std.proofs.Common.{◌∙◌, map, ap, sym, subst}
 use Rattle.std.specs.List.{AllByRecursion}
+use Rattle.std.specs.Option.{IfSome}
 use Rattle.fixed_words.specs.Types.{AreDecimals}
 use Rattle.unit_tree.specs.Components.{start_word}
 use Rattle.unit_exec.proofs.ImageLaws.{states_typed, inputs_typed, image_is, starts_are, programs_are_valid}
-use Rattle.unit_exec.specs.Showing.{ShowStates}
+use Rattle.unit_exec.specs.Showing.{HasSteadyLimit, ShowStates}
 use Rattle.unit_exec.proofs.image.image_of.Goals as goal
 
 pub valid_code-requires : goal.valid_code-requires
@@ -31,4 +32,5 @@ invariant_of-result-2 c = (
   subst (λ program. ShowStates program c.in_ok-shown.shown.items) (c.program-2.ensures ∙ sym c.code.view_is) c.in_ok-shown.ensures,
   (let are = subst (λ program. ShowStates program c.in_ok-shown.shown.items) (c.program-2.ensures ∙ sym c.code.view_is) c.in_ok-shown.ensures in
       c.first_of.ensures c.code.inside.program (subst (ShowStates c.code.inside.program) (sym c.deref.ensures.value) are)),
+  subst (λ program. IfSome c.steady_limit-steady_limit.result (HasSteadyLimit program)) (c.program-3.ensures ∙ sym c.code.view_is) c.steady_limit-steady_limit.ensures,
 )
