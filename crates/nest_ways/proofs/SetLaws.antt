@@ -246,6 +246,26 @@ put_set sets scope made own one there only other number put = by (cases_eq other
         which (inr before) = inr (own, ap (slice_get sets) here ∙ there, before)
     by (inr apart) = inr (put.0, sym (set_elsewhere sets scope other made apart) ∙ put.1, put.2)
 
+-- The sets of other scopes stay, and the one of this scope keeps its numbers.
+pub put_still : (sets : List NumberSet) (scope : ℕ) (made own : NumberSet) → slice_get sets scope ≡ Some own
+    → ((number : ℕ) → HasNumber own number → HasNumber made number)
+    → (other number : ℕ) → HasNumberAt sets other number → HasNumberAt (set sets scope made) other number
+put_still sets scope made own there keeps other number put = by (cases_eq other scope)
+  where
+    by : (other ≡ scope) ⊎ (other ≡ scope → ⊥) → HasNumberAt (set sets scope made) other number
+    by (inl here) =
+        let same : put.0 ≡ own = same_Some put.0 own (sym put.1 ∙ ap (slice_get sets) here ∙ there) in (
+          made,
+          ap (slice_get (set sets scope made)) here ∙ set_there sets scope made (slice_get_within sets scope own there),
+          keeps number (subst (λ each. HasNumber each number) same put.2),
+        )
+    by (inr apart) = (put.0, set_elsewhere sets scope other made apart ∙ put.1, put.2)
+
+-- The set of this scope has the numbers that were added.
+pub put_there : (sets : List NumberSet) (scope : ℕ) (made own : NumberSet) → slice_get sets scope ≡ Some own → (number : ℕ) → HasNumber made number
+    → HasNumberAt (set sets scope made) scope number
+put_there sets scope made own there number has = (made, set_there sets scope made (slice_get_within sets scope own there), has)
+
 -- ---- Numbers of what is kept
 
 -- One more of those that are kept has a number.

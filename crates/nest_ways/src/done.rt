@@ -1,5 +1,5 @@
 //! In which scopes of its group an input is finished: a set of scopes for each input.
-ghost use Rattle.std.specs.Prelude.{◌≡◌, ◌↔◌, ◌⊎◌, ℕ, Some, IfOk, IsTrue};
+ghost use Rattle.std.specs.Prelude.{◌≡◌, ◌↔◌, ◌⊎◌, ◌<◌, ℕ, length, Some, IfOk, IsTrue};
 ghost use Rattle.nest_ways.specs.Sets.{AreEmpty, HasAt};
 ghost use Rattle.nest_ways.specs.Walking.{IsNumbered};
 
@@ -43,7 +43,9 @@ impl DoneInputs {
 
     /// Records that an input is finished in the scope of its group with this number.
     pub(crate) fn put(&mut self, input: usize, number: u32)
-        ensures { (other one : ℕ) → HasAt self.new.sets.items other one
+        ensures there { input < length self.old.sets.items → number < 64 → HasAt self.new.sets.items input number }
+        ensures still { (other one : ℕ) → HasAt self.old.sets.items other one → HasAt self.new.sets.items other one }
+        ensures only { (other one : ℕ) → HasAt self.new.sets.items other one
             → ((other ≡ input) × (one ≡ number)) ⊎ HasAt self.old.sets.items other one }
     {
         if input < self.sets.len() {

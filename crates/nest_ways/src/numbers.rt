@@ -4,7 +4,7 @@
 //! these. The numbers of one group follow each other. The proof needs only that each number has one input, counted from
 //! a scope of the group. An input without a set, or with a set that is never found to be complete, is added again from
 //! each scope. This takes long and changes nothing.
-ghost use Rattle.std.specs.Prelude.{◌≡◌, ◌⊎◌, ◌++◌, ℕ, List, Some, IfOk, IsTrue, OnOk, slice_get};
+ghost use Rattle.std.specs.Prelude.{◌≡◌, ◌↔◌, ◌⊎◌, ◌++◌, ℕ, List, Some, IfOk, IsTrue, OnOk, slice_get};
 ghost use Rattle.std.specs.Option.{option_map};
 ghost use Rattle.nest_ways.specs.Sets.{AreKeptSets, KeepsByNumbers, HasAll, HasNumber, HasOnly, HasNumberAt};
 ghost use Rattle.nest_ways.specs.declared.ends.End.{End as Ends};
@@ -209,7 +209,7 @@ impl KeptSets {
 
     /// The numbers of what is kept for an input.
     pub(crate) fn set(&self, input: usize) -> Option<&NumberSet>
-        ensures { (set : NumberSets) → option_map (λ found. found.now) result ≡ Some set → slice_get self.now.sets.items input ≡ Some (Some set) }
+        ensures { (set : NumberSets) → (option_map (λ found. found.now) result ≡ Some set) ↔ (slice_get self.now.sets.items input ≡ Some (Some set)) }
     {
         at(self.sets.as_slice(), input)?.as_ref()
     }
@@ -243,14 +243,16 @@ impl PutSets {
         }
     }
 
-    /// Adds the numbers of a set to those of a scope.
-    pub(crate) fn put(&mut self, scope: usize, set: &NumberSet) -> Result<(), NoMemory>
-        ensures { OnOk result ((other number : ℕ) → HasNumberAt self.new.sets.items other number
+    /// Adds the numbers of a set to those of a scope, if there is such a scope and room for them. Returns whether it did.
+    pub(crate) fn put(&mut self, scope: usize, set: &NumberSet) -> Result<bool, NoMemory>
+        ensures there { IfOk result (λ told. IsTrue told → (number : ℕ) → HasNumber set.now number → HasNumberAt self.new.sets.items scope number) }
+        ensures still { OnOk result ((other number : ℕ) → HasNumberAt self.old.sets.items other number → HasNumberAt self.new.sets.items other number) }
+        ensures only { OnOk result ((other number : ℕ) → HasNumberAt self.new.sets.items other number
             → ((other ≡ scope) × HasNumber set.now number) ⊎ HasNumberAt self.old.sets.items other number) }
     {
-        if let Some(own) = self.sets.get_mut(scope) {
-            own.put_all(set)?;
+        match self.sets.get_mut(scope) {
+            Some(own) => own.put_all(set),
+            None => Ok(false),
         }
-        Ok(())
     }
 }

@@ -123,9 +123,12 @@ fn put_bit(words: &mut Words, place: usize, bit: u32)
     }
 }
 
-/// Adds the bits of a word to those of the word at a place, if there is one.
+/// Adds the bits of a word to those of the word at a place.
 fn put_word(words: &mut Words, place: usize, more: SetWord)
-    ensures { (at bit : ℕ) → HasAt words.new.items at bit → ((at ≡ place) × IsInWord more bit) ⊎ HasAt words.old.items at bit }
+    requires { place < length words.old.items }
+    ensures there { (bit : ℕ) → IsInWord more bit → HasAt words.new.items place bit }
+    ensures still { (at bit : ℕ) → HasAt words.old.items at bit → HasAt words.new.items at bit }
+    ensures only { (at bit : ℕ) → HasAt words.new.items at bit → ((at ≡ place) × IsInWord more bit) ⊎ HasAt words.old.items at bit }
 {
     if let Some(word) = words.get_mut(place) {
         *word = word.joined(more);
@@ -204,29 +207,31 @@ impl NumberSet {
     /// Chooses how many words are left out, if the set has no words yet, so that there is room for all numbers of the
     /// group.
     fn begin(&mut self, set: &NumberSet)
-        ensures { (number : ℕ) → HasNumber self.new number → HasNumber self.old number }
+        ensures { (number : ℕ) → HasNumber self.new number ↔ HasNumber self.old number }
     {
         if self.words.is_empty() {
             self.start = set.start.saturating_sub(MOST_WORDS);
         }
     }
 
-    /// Adds all numbers of another set of the same group. The words of a set that begins earlier would be left out; no
-    /// set of the same group does.
-    pub(crate) fn put_all(&mut self, set: &NumberSet) -> Result<(), NoMemory>
-        ensures { OnOk result ((number : ℕ) → HasNumber self.new number → HasNumber set.now number ⊎ HasNumber self.old number) }
+    /// Adds all numbers of another set of the same group, if there is room for them. Returns whether it did. There is no room where
+    /// the words of the other set begin earlier; those of a set of the same group don't.
+    pub(crate) fn put_all(&mut self, set: &NumberSet) -> Result<bool, NoMemory>
+        ensures there { IfOk result (λ told. IsTrue told → (number : ℕ) → HasNumber set.now number → HasNumber self.new number) }
+        ensures still { OnOk result ((number : ℕ) → HasNumber self.old number → HasNumber self.new number) }
+        ensures only { OnOk result ((number : ℕ) → HasNumber self.new number → HasNumber set.now number ⊎ HasNumber self.old number) }
     {
         self.begin(set);
         let Some(ahead) = set.start.checked_sub(self.start) else {
-            return Ok(());
+            return Ok(false);
         };
         for (place, word) in set.words.as_slice().iter().enumerate() {
             let Some(there) = ahead.checked_add(place) else {
-                return Ok(());
+                return Ok(false);
             };
             grow_to(&mut self.words, there)?;
             put_word(&mut self.words, there, *word);
         }
-        Ok(())
+        Ok(true)
     }
 }

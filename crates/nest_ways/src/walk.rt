@@ -117,7 +117,10 @@ fn note_put(start: &Start<'_, '_>, walk: &mut Walk, inlet: Inlet) -> Result<(), 
     ensures ends { OnOk result (walk.new.ends ≡ walk.old.ends) }
 {
     match start.ways.kept_sets.set(inlet.input as usize) {
-        Some(set) => walk.put.put(inlet.scope as usize, set),
+        Some(set) => {
+            walk.put.put(inlet.scope as usize, set)?;
+            Ok(())
+        }
         None => Ok(()),
     }
 }

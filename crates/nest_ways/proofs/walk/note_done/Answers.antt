@@ -14,4 +14,4 @@ returns-in-Some-clause-done c =
     let old = c.args.walk.now in
     let new : Walk = record { ends = old.ends; done = c.put.new.self; put = old.put } in
     done_with nest scopes group_scopes kept_sets all c.args.start.now.base number old new c.args.inlet c.requires.done c.requires.all
-    (λ known found. c.scope_number.ensures number known c.in-Some.is found) refl refl c.put.ensures
+    (λ known found. c.scope_number.ensures number known c.in-Some.is found) refl refl c.put.ensures.only

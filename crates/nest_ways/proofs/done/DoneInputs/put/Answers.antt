@@ -3,8 +3,8 @@ use Rattle.list_laws.proofs.Members.{read_at}
 use Rattle.nest_ways.proofs.SetLaws.{set_only}
 use Rattle.nest_ways.proofs.done.DoneInputs.put.Goals as goal
 
-pub returns-then-input-len : goal.returns-then-input-len
-returns-then-input-len c =
+pub returns-then-input-len-clause-only : goal.returns-then-input-len-clause-only
+returns-then-input-len-clause-only c =
     let sets = c.args.self.now.sets.items in
     let old = c.index.result.now in
     let less = c.if-input-len.true in

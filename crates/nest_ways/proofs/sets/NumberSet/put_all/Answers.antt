@@ -1,9 +1,9 @@
 use Rattle.std.proofs.Common.{◌≡◌, ◌⊎◌, ◌∙◌, ◌+◌, ℕ, ap, arith, get_or, inl, inr, refl, slice_get, sym, Some}
-use Rattle.std.proofs.lemmas.Option.{slice_get-get_or}
+use Rattle.std.proofs.lemmas.Option.{slice_get-get_or, slice_get_within}
 use Rattle.nest_ways.specs.Sets.{HasAt, HasNumber, IsInWord}
 use Rattle.nest_ways.specs.declared.sets.NumberSet.{NumberSet}
 use Rattle.nest_ways.specs.declared.sets.SetWord.{SetWord}
-use Rattle.nest_ways.proofs.SetLaws.{word_comes}
+use Rattle.nest_ways.proofs.SetLaws.{number_to, within_next, word_comes}
 use Rattle.nest_ways.proofs.sets.NumberSet.put_all.Goals as goal
 
 pub loop-place-preserved : goal.loop-place-preserved
@@ -25,10 +25,22 @@ loop-place-preserved c =
       λ number held.
           further number
           (word_comes old new other word c.in-Some.ahead place there refl far (omega (arith, sum)) at
-          (λ k bit has. before word there k bit (c.put_word.ensures k bit has)) number held),
+          (λ k bit has. before word there k bit (c.put_word.ensures.only k bit has)) number held),
       same,
+      λ number had.
+          let was = c.loop-place.invariant.2 number had in record {
+            place = was.place;
+            bit = was.bit;
+            has = still was.place was.bit was.has;
+            is = was.is;
+          },
+      within_next other.words.items new.words.items place there c.in-Some.ahead word word at (omega (arith, sum)) (λ bit is. is) c.put_word.ensures.there
+          (λ k bit less has. still (c.in-Some.ahead + k) bit (c.loop-place.invariant.3 k bit less has)),
     )
   where
+    still : (k bit : ℕ) → HasAt c.loop-place.self.words.items k bit → HasAt c.put_word.new.words.items k bit
+    still k bit has = c.put_word.ensures.still k bit (c.in_ok-grow_to.ensures.still k bit has)
+
     before : (word : SetWord) (there k bit : ℕ) → ((k ≡ there) × IsInWord word bit) ⊎ HasAt c.grow_to.new.words.items k bit
         → ((k ≡ there) × IsInWord word bit) ⊎ HasAt c.loop-place.self.words.items k bit
     before word there k bit (inl here) = inl here
@@ -38,3 +50,15 @@ loop-place-preserved c =
         → HasNumber c.args.set.now number ⊎ HasNumber c.begin.new.self number
     further number (inl here) = inl here
     further number (inr was) = c.loop-place.invariant.0 number was
+
+pub returns-clause-there : goal.returns-clause-there
+returns-clause-there c told =
+    let sub = c.in-Some.ensures in
+    let same = c.loop-place.invariant.1 in
+    let long = c.loop-place-test.false in
+    let start : c.args.set.now.start ≡ c.loop-place.self.start + c.in-Some.ahead = omega (arith, sub, same) in
+    number_to c.args.set.now c.loop-place.self c.in-Some.ahead start
+    (λ place bit has.
+    let within =
+    slice_get_within c.as_slice-word-items.result.now place has.0 (ap (λ those. slice_get those place) c.as_slice-word-items.ensures ∙ has.1) in
+    c.loop-place.invariant.3 place bit (omega (arith, within, long)) has)
