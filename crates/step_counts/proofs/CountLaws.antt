@@ -4,7 +4,7 @@ use Rattle.std.proofs.lemmas.List.{map-append}
 use Rattle.std.proofs.lemmas.List.Elements.{filter-append}
 use Rattle.std.proofs.lemmas.List.Sums.{count_by-le-length, sum_by_push}
 use Rattle.std.proofs.lemmas.Option.{same_Some}
-use Rattle.std.specs.Prelude.{filter, min, slice_get}
+use Rattle.std.specs.Prelude.{filter, slice_get}
 use Rattle.std.specs.List.{AllByRecursion, count_by}
 use Rattle.model_rules.specs.Limits.{rows_limit}
 use Rattle.step_counts.specs.Counts.{IsCountOf, all_counts, below, counts_of, is_limited_by, is_longest, is_redone, is_shortened_by, is_stop, least, lesser}

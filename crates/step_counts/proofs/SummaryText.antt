@@ -1,5 +1,5 @@
 -- The text of a summary, from its two parts.
-use Rattle.std.proofs.Common.{◌≡◌, ◌∙◌, ℕ, List, ◌++◌, Option, length, append_assoc, ap, sym, subst}
+use Rattle.std.proofs.Common.{◌≡◌, ◌∙◌, ℕ, List, ◌++◌, Option, length, append_assoc, ap, subst}
 use Rattle.std.specs.Prelude.{if◌then◌else◌, is_some}
 use Rattle.std.specs.List.{count_by}
 use Rattle.step_counts.specs.Counts.{IsCountOf, is_longest, is_redone, is_stop}

@@ -1,6 +1,6 @@
 -- The summary of the steps of a run: a table with a line for all steps, for the stop and the longest step of the system, and for the
 -- instances to look at first.
-use Rattle.std.specs.Prelude.{ℕ, Bool, List, [], ◌∷◌, ◌++◌, codes, count_by, is_some, length, if◌then◌else◌, Option, Some, None}
+use Rattle.std.specs.Prelude.{ℕ, List, [], ◌∷◌, ◌++◌, codes, count_by, is_some, length, if◌then◌else◌, Option, Some, None}
 use Rattle.std.specs.Fmt.{decimal}
 use Rattle.std.specs.List.{flat_map}
 use Rattle.step_counts.specs.Counts.{all_counts, below, is_longest, is_redone, is_stop}

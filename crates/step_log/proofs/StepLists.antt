@@ -2,7 +2,6 @@
 use Rattle.std.proofs.Common.{◌≡◌, ◌∙◌, true, false, List, [], ◌∷◌, ◌++◌, inl, inr, refl, ap, sym, arith}
 use Rattle.std.proofs.lemmas.List.Elements.{filter_map-append}
 use Rattle.std.specs.List.{cons_option}
-use Rattle.step_counts.specs.declared.step.AgreedStep.{AgreedStep}
 use Rattle.step_log.specs.Reports.{plain_step, plain_steps}
 use Rattle.trace_core.specs.Runs.{RunState, is_ended}
 use Rattle.trace_core.specs.Settling.{Settled}

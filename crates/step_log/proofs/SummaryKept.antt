@@ -1,12 +1,10 @@
 -- The invariant of the loop that counts the steps of a run, and what is counted when it is over.
-use Rattle.std.proofs.Common.{◌≡◌, ◌∙◌, ℕ, suc, ◌<◌, ◌≤◌, false, List, [], ◌∷◌, ◌++◌, length, length-append, Option, Some, None, inl, inr, refl, ap, sym, subst, arith, append-nil}
+use Rattle.std.proofs.Common.{◌≡◌, ◌∙◌, ℕ, suc, ◌≤◌, false, List, [], ◌∷◌, ◌++◌, length, length-append, Option, Some, None, inl, inr, refl, ap, sym, subst, arith, append-nil}
 use Rattle.std.specs.Io.KnownBytes.{Appends}
-use Rattle.std.proofs.lemmas.List.Elements.{filter_map-append}
 use Rattle.std.specs.List.{cons_option}
 use Rattle.cosim_io.specs.Pieces.{AppendsPrefix}
 use Rattle.cosim_io.proofs.PieceLemmas.{AppendsPrefix-nil}
 use Rattle.event_runs.specs.Readings.{offers_of, pace_of}
-use Rattle.model_rules.specs.Limits.{rows_limit}
 use Rattle.step_counts.proofs.CountLaws.{has_room}
 use Rattle.step_counts.specs.Counting.{HasRoom}
 use Rattle.step_counts.specs.Counts.{IsCountOf}

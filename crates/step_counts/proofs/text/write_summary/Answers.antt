@@ -1,4 +1,4 @@
-use Rattle.std.proofs.Common.{rules, ◌≡◌, ◌∙◌, ◌++◌, ap}
+use Rattle.std.proofs.Common.{rules, ◌∙◌, ◌++◌, ap}
 use Rattle.list_laws.proofs.Options.{on_ok}
 use Rattle.step_counts.proofs.SummaryText.{summed}
 use Rattle.step_counts.specs.Summaries.{instance_lines}

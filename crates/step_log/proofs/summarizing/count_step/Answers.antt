@@ -3,7 +3,6 @@ use Rattle.std.specs.List.{cons_option}
 use Rattle.step_counts.specs.Counts.{IsCountOf}
 use Rattle.step_log.proofs.AgreedSteps.{ends_here}
 use Rattle.step_log.specs.Reports.{plain_step}
-use Rattle.trace_core.specs.Runs.{is_ended}
 use Rattle.trace_plan.specs.Plans.{Planned}
 use Rattle.trace_rows.proofs.PhaseLaws.{ends_already}
 use Rattle.step_log.proofs.summarizing.count_step.Goals as goal

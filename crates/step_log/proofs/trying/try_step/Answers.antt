@@ -1,4 +1,4 @@
-use Rattle.std.proofs.Common.{◌≡◌, ◌∙◌, ap, subst}
+use Rattle.std.proofs.Common.{◌∙◌, ap, subst}
 use Rattle.event_runs.specs.Readings.{offers_of, pace_of}
 use Rattle.step_log.proofs.Beginnings.{begun}
 use Rattle.step_log.proofs.StepLists.{not_ended}

@@ -1,4 +1,4 @@
-use Rattle.std.proofs.Common.{rules, ◌≡◌, ◌∙◌, length, map, ap}
+use Rattle.std.proofs.Common.{rules, ◌∙◌, length, map, ap}
 use Rattle.std.proofs.lemmas.List.{length-map}
 use Rattle.list_laws.proofs.Vectors.{items_put}
 use Rattle.step_counts.proofs.CountLaws.{count_more}
