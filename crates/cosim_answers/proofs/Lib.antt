@@ -6,6 +6,7 @@ pub mod MakingLaws
 pub mod NodesLaws
 pub mod OutputNames
 pub mod PipelineLaws
+pub mod PlainFits
 pub mod PlainRests
 pub mod RefusedLines
 pub mod ReplayLaws

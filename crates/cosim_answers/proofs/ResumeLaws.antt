@@ -30,6 +30,7 @@ use Rattle.cosim_answers.specs.Answer.{Answers}
 use Rattle.cosim_answers.specs.SavedAnswers.{ResumeRefuses, SavesIn, TellsRest, text_behind}
 use Rattle.cosim_answers.specs.Serving.{FindsSaved, GoesOn, IsAccepted, IsRefusedBehind, MakesSaved, OpensSaved, TellsResumed}
 use Rattle.cosim_answers.proofs.MakingLaws.{made}
+use Rattle.cosim_answers.proofs.PlainFits.{fits_plain, fits_read}
 use Rattle.cosim_answers.proofs.PlainRests.{plain_answer, plain_position, position_told, rest_told}
 use Rattle.cosim_answers.proofs.SavedLaws.{rest_there}
 use Rattle.cosim_answers.proofs.TraceLaws.{IsWhole, is_end, whole_of}
@@ -77,7 +78,7 @@ module _ (text : List ℕ) (saved : Saved) (plan : Planned) (within : length tex
         saved = saved;
         system = plan.system;
         saves = in_text;
-        none = subst (λ p. FitsNone p saved) whole none;
+        none = λ at fits. subst (λ p. FitsNone p saved) whole none at (fits_plain plan.system is_whole saved at fits);
         at = at;
         by = by;
       }))))
@@ -98,7 +99,15 @@ module _ (text : List ℕ) (saved : Saved) (plan : Planned) (within : length tex
 
     -- The answer by a rest.
     by_rest : (answer : Answer) → TellsRest plan.system r.opened answer → Answers Resume text answer
-    by_rest answer tells = inr (record { saved = saved; system = plan.system; saves = in_text; at = r.opened; fits = fits; tells = tells })
+    by_rest answer tells =
+        inr (record {
+          saved = saved;
+          system = plan.system;
+          saves = in_text;
+          at = r.opened;
+          fits = fits_read plan.system is_whole saved r.opened fits;
+          tells = tells;
+        })
 
     begins_rest : (out out' : Stream) → AppendsRestPrefix plan r.opened out.bytes out'.bytes → Begins (Answers Resume text) out out'
     begins_rest out out' front =

@@ -20,9 +20,10 @@ use Rattle.unit_tree.specs.declared.system.System.{System}
 use Rattle.cosim_call.specs.Answers.{Answer, IsEndOfWork, piece_answer}
 use Rattle.command_line.specs.Commands.{saved_limit}
 use Rattle.cosim_answers.specs.Accepted.{planned}
-use Rattle.cosim_answers.specs.SavedAnswers.{AnswersResume, LacksMatch, LacksPosition, RefusesBehind, ResumeRefuses, SavesIn, SavesNone, TellsPosition, TellsRest}
+use Rattle.cosim_answers.specs.SavedAnswers.{AnswersResume, FitsSystem, LacksMatch, LacksPosition, RefusesBehind, ResumeRefuses, SavesIn, SavesNone, TellsPosition, TellsRest}
 use Rattle.cosim_answers.specs.SavedAnswers.{lines_before, text_behind}
 use Rattle.cosim_answers.proofs.Lawful.{AnswersOrBreaks, HasNoOther, IsLawful, agree_as_same, at_most_or_above}
+use Rattle.cosim_answers.proofs.PlainFits.{fits_plain, fits_read}
 use Rattle.cosim_answers.proofs.PlainRests.{TellsPlainRest, plain_answer, plain_position, position_told, rest_plain, rest_told}
 use Rattle.cosim_answers.proofs.TraceLaws.{IsWhole, is_end, whole_of}
 
@@ -132,11 +133,11 @@ module _ (text : List ℕ) where
       (subst (λ s. IsRefusedAt (Behind s) behind rule) (same_saved refusing saved saves in_text.saves) refused)
 
   never_fits : (saved other : Saved) (system also : System) (at : Position) → SavesIn text saved system → SavesIn text other also
-      → FitsSaved (planned system) saved at → FitsNone (planned also) other → ⊥
+      → FitsSystem system saved at → ((at : Position) → FitsSystem also other at → ⊥) → ⊥
   never_fits saved other system also at a b fits none =
       none at
-      (subst (λ s. FitsSaved (planned also) s at) (same_saved saved other a.saves b.saves)
-      (subst (λ s. FitsSaved (planned s) saved at) (same_system saved other system also a b) fits))
+      (subst (λ s. FitsSystem also s at) (same_saved saved other a.saves b.saves)
+      (subst (λ s. FitsSystem s saved at) (same_system saved other system also a b) fits))
 
   whole_in : (saved : Saved) (system : System) → SavesIn text saved system → IsWhole system
   whole_in saved system in_text = whole_of (Behind saved) system in_text.lines in_text.accepted
@@ -149,10 +150,18 @@ module _ (text : List ℕ) where
   by_fit : (saved : Saved) (system : System) → SavesIn text saved system
       → ((at : Position) × FitsSaved (planned system) saved at) ⊎ FitsNone (planned system) saved → Judged
   by_fit saved system in_text (inl (at, fits)) =
-      let rest = own_rest_there system saved at (whole_in saved system in_text) fits in
-      inr (rest.0, record { saved = saved; system = system; saves = in_text; at = at; fits = fits; tells = rest.1 })
+      let whole = whole_in saved system in_text in
+      let rest = own_rest_there system saved at whole fits in
+      inr (rest.0, record { saved = saved; system = system; saves = in_text; at = at; fits = fits_read system whole saved at fits; tells = rest.1 })
   by_fit saved system in_text (inr none) =
-      inl (1, 33, inr (inr (inr (record { saved = saved; system = system; saves = in_text; none = none; at = refl; by = refl }))))
+      inl (1, 33, inr (inr (inr (record {
+        saved = saved;
+        system = system;
+        saves = in_text;
+        none = λ at fits. none at (fits_plain system (whole_in saved system in_text) saved at fits);
+        at = refl;
+        by = refl;
+      }))))
 
   by_text : (saved : Saved) → length text ≤ saved_limit → IsSaved text saved
       → ((system : System) × (lines : List ℕ) × IsAcceptedAs (Behind saved) system lines)
@@ -231,10 +240,12 @@ module _ (text : List ℕ) where
   resumed_same one other a b =
       let saved = same_saved a.saved b.saved a.saves.saves b.saves.saves in
       let system = same_system a.saved b.saved a.system b.system a.saves b.saves in
+      let whole = whole_in b.saved b.system b.saves in
       let fits =
-      subst (λ s. FitsSaved (planned b.system) s a.at) saved (subst (λ s. FitsSaved (planned s) a.saved a.at) system a.fits) in
-      let at = (fits_one_or_none (planned b.system) b.saved).once a.at b.at fits b.fits in
-      rests_same b.system b.saved b.at (whole_in b.saved b.system b.saves) b.fits one other
+      subst (λ s. FitsSystem b.system s a.at) saved (subst (λ s. FitsSystem s a.saved a.at) system a.fits) in
+      let plain = fits_plain b.system whole b.saved b.at b.fits in
+      let at = (fits_one_or_none (planned b.system) b.saved).once a.at b.at (fits_plain b.system whole b.saved a.at fits) plain in
+      rests_same b.system b.saved b.at whole plain one other
       (subst (λ p. TellsRest b.system p one) at (subst (λ s. TellsRest s a.at one) system a.tells)) b.tells
 
 pub resumes_same : HasNoOther AnswersResume

@@ -104,7 +104,8 @@ module _ (row : ℕ) (text : List ℕ) (saved resumed run : Answer) (of : Answer
   same_position : on.at ≡ at
   same_position =
       (fits_one_or_none (planned system) (saved_of system at)).once on.at at
-      (subst (λ s. FitsSaved (planned system) s on.at) same_saved (subst (λ s. FitsSaved (planned s) on.saved on.at) same_system on.fits))
+      (fits_plain system whole (saved_of system at) on.at
+      (subst (λ s. FitsSystem system s on.at) same_saved (subst (λ s. FitsSystem s on.saved on.at) same_system on.fits)))
       fits
 
   told : TellsRest system at resumed

@@ -3,21 +3,23 @@
 --   rule 31   the trace has no position with the number that is asked for
 --   rule 32   the text saves no position
 --   rule 33   a run of the system can be at no such position
-use Rattle.std.specs.Prelude.{◌≡◌, ◌⊎◌, ℕ, ◌+◌, ◌≤◌, List, drop, length}
-use Rattle.std.specs.List.{flat_map}
+use Rattle.std.specs.Prelude.{◌≡◌, ◌⊎◌, ℕ, ◌+◌, ◌<◌, ◌≤◌, List, drop, length, map}
+use Rattle.std.specs.List.{AllZip, flat_map}
 use Rattle.event_csv.specs.EventText.{event_line}
 use Rattle.event_runs.specs.EventRests.{IsEventPositionOf, IsEventRest}
-use Rattle.event_runs.specs.EventTrace.{EventRow}
+use Rattle.event_runs.specs.EventRuns.{event_run_of}
+use Rattle.event_runs.specs.EventTrace.{EventRow, EventRun}
 use Rattle.command_line.specs.Commands.{saved_limit}
-use Rattle.cosim_answers.specs.Accepted.{OnAccepted, RefusesAlso, planned, status_of, traced_notes}
+use Rattle.cosim_answers.specs.Accepted.{OnAccepted, RefusesAlso, status_of, traced_notes}
 use Rattle.cosim_answers.specs.Limits.{IsLongerThan}
 use Rattle.cosim_call.specs.Answers.{Answer, piece_answer}
 use Rattle.save_point.specs.SavedTexts.{BreaksAtLine, IsSaved, saved_text}
-use Rattle.save_point.specs.Saving.{FitsNone, FitsSaved}
 use Rattle.save_point.specs.declared.reading.Saved.{Saved}
 use Rattle.super_time.specs.declared.point.Point.{Point}
 use Rattle.text_accept.specs.Accepting.{IsAcceptedAs, IsRefusedAt}
+use Rattle.unit_tree.specs.Parts.{joined}
 use Rattle.unit_tree.specs.Successor.{Position}
+use Rattle.unit_tree.specs.Trace.{AreWordsOf}
 use Rattle.unit_tree.specs.declared.ending.Ending.{Ending}
 use Rattle.unit_tree.specs.declared.system.System.{System}
 
@@ -55,6 +57,23 @@ pub record SavesIn (text : List ℕ) (saved : Saved) (system : System) : Type 0 
   pub lines : List ℕ
   pub accepted : IsAcceptedAs (text_behind text saved) system lines
 
+-- A position has one state for each instance, with a word of its type for each state of the instance's unit.
+abbrev pub HasStateWords : EventRun → Position → Type 0
+HasStateWords run at = AllZip (λ one state. AreWordsOf one.member.component.unit.states state) run.members at.states
+
+-- The position is the saved one, and a run of the system may be at it. The names are those of the instances in their order. Each has as
+-- many words as its unit has states, each word of its type. The position is within the stop and both budgets.
+pub record FitsSystem (system : System) (saved : Saved) (at : Position) : Type 0 where
+  pub number : at.number ≡ saved.row
+  pub there : at.point ≡ saved.point
+  pub states : joined at.states ≡ saved.states
+  pub names_are : saved.names ≡ map (λ instance. instance.name) system.instances
+  pub counts_are : saved.counts ≡ map length at.states
+  pub has_words : HasStateWords (event_run_of system) at
+  pub stop : at.point.t ≤ (event_run_of system).pace.stop
+  pub zeros : at.point.n ≤ (event_run_of system).pace.zero_budget
+  pub rows : at.number < (event_run_of system).pace.row_budget
+
 -- The lines of rows, without a header, and how and where the run ended.
 abbrev pub resumed_answer : System → List EventRow → Point → Ending → Answer
 resumed_answer system rows last ending = record {
@@ -77,7 +96,7 @@ pub record AnswersResume (text : List ℕ) (answer : Answer) : Type 0 where
   pub system : System
   pub saves : SavesIn text saved system
   pub at : Position
-  pub fits : FitsSaved (planned system) saved at
+  pub fits : FitsSystem system saved at
   pub tells : TellsRest system at answer
 
 -- The text saves no position: rule 32, at the first line that is missing or has another form.
@@ -100,7 +119,7 @@ pub record LacksMatch (text : List ℕ) (line rule : ℕ) : Type 0 where
   pub saved : Saved
   pub system : System
   pub saves : SavesIn text saved system
-  pub none : FitsNone (planned system) saved
+  pub none : (at : Position) → FitsSystem system saved at → ⊥
   pub at : line ≡ 1
   pub by : rule ≡ 33
 

@@ -1,4 +1,4 @@
-//! The notes of the program.
+//! The notes of the programs.
 ghost use Rattle.std.specs.Prelude.{◌≡◌, ◌≤◌, ◌∷◌, [], ◌++◌, IfOk, OnOk};
 ghost use Rattle.cosim_call.specs.Notes.{line_end};
 ghost use Rattle.cosim_answers.specs.Accepted.{traced_notes};
@@ -204,7 +204,7 @@ fn put_tickets(
 }
 
 /// Returns the line of a replay's counts.
-pub(crate) fn counts(alloc: Global, counts: Counts) -> Result<Vec<u8>, NoMemory>
+pub fn counts(alloc: Global, counts: Counts) -> Result<Vec<u8>, NoMemory>
     ensures { IfOk result (λ note. note.items ≡ counts_text counts) }
 {
     let mut note = Vec::from_slice(alloc, b"cosim:")?;
@@ -224,7 +224,7 @@ pub(crate) fn counts(alloc: Global, counts: Counts) -> Result<Vec<u8>, NoMemory>
 }
 
 /// Returns the line of a run's report.
-pub(crate) fn report(alloc: Global, report: Report) -> Result<Vec<u8>, NoMemory>
+pub fn report(alloc: Global, report: Report) -> Result<Vec<u8>, NoMemory>
     ensures { IfOk result (λ note. note.items ≡ report_text report) }
 {
     let mut note = Vec::from_slice(alloc, b"cosim:")?;
@@ -242,7 +242,7 @@ pub(crate) fn report(alloc: Global, report: Report) -> Result<Vec<u8>, NoMemory>
 }
 
 /// Returns the line with the rows of two nodes.
-pub(crate) fn nodes(alloc: Global, first: u64, second: u64) -> Result<Vec<u8>, NoMemory>
+pub fn nodes(alloc: Global, first: u64, second: u64) -> Result<Vec<u8>, NoMemory>
     ensures { IfOk result (λ note. note.items ≡ nodes_text first second) }
 {
     let (mut one, mut other) = (Buffer::new(), Buffer::new());

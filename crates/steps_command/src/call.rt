@@ -8,8 +8,8 @@ ghost use Rattle.steps_command.specs.Reporting.{Reports, TellsReported};
 ghost use Rattle.steps_command.specs.StepAnswers.{IsReportAnswer, IsStepsAnswer, StepsUsage, report_asked, steps_input};
 
 use cosim_call::{Served, Status, Stopped, finish, read_input, tell};
-use cosim_commands::{ending_notes, plan_of, status_of};
 use cosim_io::{Sink, Source};
+use cosim_notes::{ending_notes, plan_of, status_of};
 use model_rules::LONGEST_TEXT;
 use std::alloc::Global;
 use std::sync::Arc;

@@ -3,8 +3,8 @@ ghost use Rattle.cosim_call.specs.Coming.{Makes};
 ghost use Rattle.cosim_answers.specs.Answer.{Answers};
 ghost use Rattle.command_line.specs.declared.commands.Command.TheVariants.{Check};
 
-use crate::commands::accept;
 use cosim_call::Stopped;
+use cosim_notes::accept;
 use std::alloc::Global;
 
 /// Returns what is written for a text: that it is accepted.

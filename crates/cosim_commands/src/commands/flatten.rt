@@ -6,9 +6,9 @@ ghost use Rattle.cosim_answers.specs.Serving.{FindsFlat, FindsNest};
 ghost use Rattle.cosim_call.specs.Coming.{Makes};
 ghost use Rattle.std.specs.Prelude.{◌≡◌, length};
 
-use crate::commands::accept;
 use crate::commands::print::canonical;
 use cosim_call::Stopped;
+use cosim_notes::accept;
 use nest_text::{Nest, NestFault, read_nest};
 use std::alloc::Global;
 use sub_flat::into_flat;

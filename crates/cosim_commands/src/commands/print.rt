@@ -5,8 +5,8 @@ ghost use Rattle.cosim_answers.specs.Accepted.{printed_text};
 ghost use Rattle.cosim_answers.specs.Answer.{Answers};
 ghost use Rattle.command_line.specs.declared.commands.Command.TheVariants.{Print};
 
-use crate::commands::accept;
 use cosim_call::Stopped;
+use cosim_notes::accept;
 use fixed_words::NoMemory;
 use std::alloc::Global;
 use unit_print::print_system;

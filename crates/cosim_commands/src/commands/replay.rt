@@ -6,11 +6,10 @@ ghost use Rattle.cosim_answers.specs.Answer.{Answers};
 ghost use Rattle.cosim_answers.specs.Serving.{Replays, TellsReplayed};
 ghost use Rattle.command_line.specs.declared.commands.Command.TheVariants.{Replay};
 
-use crate::commands::run::{plan_of, status};
-use crate::note;
 use command_line::Replaying;
 use cosim_call::{Served, Stopped};
 use cosim_io::Sink;
+use cosim_notes::{counts_note, ending_notes, plan_of, status_of};
 use fixed_words::List;
 use spec_core::{Counts, ReplayFault, replay};
 use std::alloc::Global;
@@ -38,10 +37,10 @@ fn replay_plan<O: Sink>(
 fn replayed(alloc: Global, plan: &Plan, counts: Counts) -> Result<Served, Stopped>
     ensures { TellsReplayed plan.now.system counts result }
 {
-    let mut notes = note::ending(alloc, plan, counts.outcome, counts.last)?;
-    notes.push(List::from_vec(note::counts(alloc, counts)?))?;
+    let mut notes = ending_notes(alloc, plan, counts.outcome, counts.last)?;
+    notes.push(List::from_vec(counts_note(alloc, counts)?))?;
     Ok(Served {
-        status: status(counts.outcome),
+        status: status_of(counts.outcome),
         notes,
     })
 }

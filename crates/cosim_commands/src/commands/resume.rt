@@ -11,10 +11,9 @@ ghost use Rattle.cosim_call.specs.Coming.{Serves};
 ghost use Rattle.save_point.specs.SavedTexts.{IsSaved};
 ghost use Rattle.trace_core.specs.Runs.{IsOpened, Stands};
 
-use crate::commands::run::{plan_of, status};
-use crate::note;
 use cosim_call::{Served, Stopped};
 use cosim_io::Sink;
+use cosim_notes::{ending_notes, plan_of, status_of};
 use model_rules::Rule;
 use save_point::{Saved, SavedFault, open_saved, read_saved};
 use serial_run::put_rest;
@@ -97,9 +96,9 @@ fn go_on<O: Sink>(alloc: Global, plan: &Plan, run: Run, out: &mut O) -> Result<R
 fn resumed(alloc: Global, plan: &Plan, report: Report) -> Result<Served, Stopped>
     ensures { TellsResumed plan.now.system report result }
 {
-    let notes = note::ending(alloc, plan, report.outcome, report.last)?;
+    let notes = ending_notes(alloc, plan, report.outcome, report.last)?;
     Ok(Served {
-        status: status(report.outcome),
+        status: status_of(report.outcome),
         notes,
     })
 }

@@ -1,18 +1,16 @@
 //! The command `run`, in three steps: the plan of the text's system, its run, and how this ended.
-ghost use Rattle.std.specs.Prelude.{◌≡◌, ◌<◌, ◌≤◌, IfErr, IfOk};
+ghost use Rattle.std.specs.Prelude.{◌≡◌, ◌<◌, ◌≤◌, IfOk};
 ghost use Rattle.cosim_call.specs.Calls.{stream};
 ghost use Rattle.cosim_call.specs.Coming.{Serves};
-ghost use Rattle.cosim_answers.specs.Accepted.{planned, status_of};
 ghost use Rattle.cosim_answers.specs.Answer.{Answers};
-ghost use Rattle.cosim_answers.specs.Serving.{IsAccepted, IsUnaccepted, Runs, TellsEnding};
+ghost use Rattle.cosim_answers.specs.Serving.{Runs, TellsEnding};
 ghost use Rattle.command_line.specs.declared.commands.Command.TheVariants.{Run};
 ghost use Rattle.serial_run.specs.Alone.{IsAlone};
 
-use crate::commands::accept;
-use crate::note;
 use command_line::Running;
-use cosim_call::{Served, Status, Stopped};
+use cosim_call::{Served, Stopped};
 use cosim_io::Sink;
+use cosim_notes::{ending_notes, plan_of, report_note, status_of};
 use fixed_words::List;
 use serial_run::run_alone;
 use std::alloc::Global;
@@ -20,21 +18,7 @@ use std::sync::{Arc, Wait};
 use std::thread::Threads;
 use trace_core::Plan;
 use trace_rows::{CrewFault, Report};
-use unit_tree::Ending;
 use work_crew::{Gate, Policy, run_crew};
-
-/// Returns the plan of the system of a text, or the text's refusal.
-pub fn plan_of(alloc: Global, text: &[u8]) -> Result<Arc<Plan>, Stopped>
-    ensures planned { IfOk result (λ plan. IsAccepted text.now plan.value.system) }
-    ensures whole { IfOk result (λ plan. plan.value ≡ planned plan.value.system) }
-    ensures refused { IfErr result (IsUnaccepted text.now) }
-{
-    let read = accept(alloc, text)?;
-    let plan = Plan::ordered(alloc, read.checked, read.order)?;
-    // Called for its clauses, which state that the plan's run is that of its system's plain form.
-    let _ = plan.checked();
-    Ok(Arc::new(alloc, plan)?)
-}
 
 /// Runs a plan in the calling thread. All steps of its report are its own, and there are no tickets.
 pub(crate) fn run_plan<O: Sink>(
@@ -94,30 +78,17 @@ pub(crate) fn run_crewed<R: Threads + Wait + Copy + Send + Drop + 'static, O: Si
     }
 }
 
-/// Returns the status of how a run ended.
-pub fn status(ending: Ending) -> Status
-    ensures { result ≡ status_of ending }
-{
-    match ending {
-        Ending::Completed => Status::Done,
-        Ending::RowBudget => Status::RowBudget,
-        Ending::ZeroBudget => Status::ZeroBudget,
-        Ending::UnitFault { .. } => Status::UnitFault,
-        Ending::StepRefused { .. } => Status::StepRefused,
-    }
-}
-
 /// Returns the report of a run of a plan that came to its end: the status, and the notes, with the line of its counts where one is asked
 /// for.
 fn reported(alloc: Global, plan: &Plan, asked: &Running, report: Report) -> Result<Served, Stopped>
     ensures { TellsEnding plan.now.system asked.now report result }
 {
-    let mut notes = note::ending(alloc, plan, report.outcome, report.last)?;
+    let mut notes = ending_notes(alloc, plan, report.outcome, report.last)?;
     if asked.report {
-        notes.push(List::from_vec(note::report(alloc, report)?))?;
+        notes.push(List::from_vec(report_note(alloc, report)?))?;
     }
     Ok(Served {
-        status: status(report.outcome),
+        status: status_of(report.outcome),
         notes,
     })
 }

@@ -4,9 +4,9 @@ ghost use Rattle.cosim_answers.specs.Answer.{Answers};
 ghost use Rattle.cosim_answers.specs.Serving.{MakesSaved};
 ghost use Rattle.command_line.specs.declared.commands.Command.TheVariants.{Save};
 
-use crate::commands::run::plan_of;
 use command_line::Saving;
 use cosim_call::Stopped;
+use cosim_notes::plan_of;
 use model_rules::Rule;
 use save_point::{SaveFault, save_text};
 use std::alloc::Global;

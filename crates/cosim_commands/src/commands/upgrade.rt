@@ -6,9 +6,9 @@ ghost use Rattle.command_line.specs.declared.commands.Command.TheVariants.{Upgra
 ghost use Rattle.unit_tree.specs.Printable.{IsPrintable};
 ghost use Rattle.unit_tree.specs.WellFormed.{IsWellFormed};
 
-use crate::commands::accept;
 use crate::commands::print::canonical;
 use cosim_call::Stopped;
+use cosim_notes::accept;
 use model_rules::Rule;
 use std::alloc::Global;
 use unit_tree::System;

@@ -7,8 +7,8 @@ ghost use Rattle.cosim_answers.specs.Serving.{FindsParts};
 ghost use Rattle.cosim_answers.specs.TableAnswers.{verdict_text};
 ghost use Rattle.cosim_call.specs.Coming.{Makes};
 
-use crate::commands::run::plan_of;
 use cosim_call::{Stopped, append_all};
+use cosim_notes::plan_of;
 use fixed_words::NoMemory;
 use itoa::Buffer;
 use model_rules::Rule;

@@ -1,7 +1,7 @@
 use Rattle.std.proofs.Common.{◌≡◌, ◌∙◌, List, ℕ, subst}
 use Rattle.std.specs.Prelude.{IfOk}
 use Rattle.cosim_answers.proofs.RunLaws.{notes_are}
-use Rattle.cosim_commands.proofs.note.ending.Goals as goal
+use Rattle.cosim_notes.proofs.notes.ending.Goals as goal
 
 pub returns : goal.returns
 returns c =

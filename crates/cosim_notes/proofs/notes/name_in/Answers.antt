@@ -3,7 +3,7 @@ use Rattle.std.specs.Prelude.{slice_get, slice_index_or}
 use Rattle.std.specs.Option.{option_copied}
 use Rattle.unit_tree.specs.declared.unit.Output.{Output}
 use Rattle.cosim_answers.proofs.OutputNames.{event_name, plain_name, name_behind}
-use Rattle.cosim_commands.proofs.note.name_in.Goals as goal
+use Rattle.cosim_notes.proofs.notes.name_in.Goals as goal
 
 element : {A : Type 0} (xs : List A) (k : ℕ) (default : A) → k < length xs → slice_get xs k ≡ Some (slice_index_or xs k default)
 element [] k default within = absurd (omega (arith, within))

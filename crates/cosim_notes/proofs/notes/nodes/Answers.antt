@@ -3,7 +3,7 @@ use Rattle.std.specs.Fmt.{decimal}
 use Rattle.std.specs.Prelude.{codes}
 use Rattle.cosim_call.specs.Notes.{line_end}
 use Rattle.cosim_answers.specs.Notes.{nodes_text}
-use Rattle.cosim_commands.proofs.note.nodes.Goals as goal
+use Rattle.cosim_notes.proofs.notes.nodes.Goals as goal
 
 -- The pieces, one after the other.
 abbrev pieces : List ℕ → List ℕ → List ℕ

@@ -1,7 +1,7 @@
 use Rattle.std.proofs.Common.{◌≡◌, ◌⊎◌, ◌*◌, ◌<◌, ◌≤◌, ℕ, true, false, length, max, inl, inr, sym, ap, ◌∙◌, arith}
 use Rattle.std.proofs.lemmas.Bool.Decides.{leb_tells}
 use Rattle.std.specs.Prelude.{nat_le}
-use Rattle.unit_tree.specs.Compositions.{Composition}
+use Rattle.unit_tree.specs.Compositions.{Composition, run_of}
 use Rattle.unit_tree.specs.Routes.{routes_of}
 use Rattle.unit_tree.specs.declared.order.Routes.{Routes}
 use Rattle.cosim_answers.specs.NodesAnswers.{nodes_limit, outputs_run, size_for_nodes}
@@ -22,9 +22,9 @@ pub returns-in-Some : goal.returns-in-Some
 returns-in-Some c =
     ap (λ size. nat_le size nodes_limit)
     (c.in-Some.ensures.1
-    ∙ size_as c.args.plan.now.run c.row_limit.result c.max.result c.len-outputs.result c.from-instances.result c.routes.result.now
-    c.row_limit.ensures.value c.max.ensures c.len-outputs.ensures (c.routes.ensures.routes ∙ c.order.ensures.routes)
-    (c.from-instances.ensures ∙ c.instances.ensures.count))
+    ∙ size_as (run_of c.args.read.now.checked) c.row_limit_of.result c.max.result c.len-outputs.result c.from-instances.result c.routes.result.now
+    c.row_limit_of.ensures c.max.ensures c.len-outputs.ensures (c.routes.ensures.routes ∙ c.requires.routes)
+    (c.from-instances.ensures ∙ c.instances_of-instances.ensures))
 
 -- A product that does not fit a word is more than the limit.
 above : (product size : ℕ) → (product < 18446744073709551616 → ⊥) → product ≡ size → false ≡ nat_le size nodes_limit
@@ -36,7 +36,7 @@ above product size large is = by (leb_tells size nodes_limit)
 
 pub returns-in-None : goal.returns-in-None
 returns-in-None c =
-    above (c.row_limit.result * c.max.result) (size_for_nodes c.args.plan.now.run) c.in-None.ensures
-    (size_as c.args.plan.now.run c.row_limit.result c.max.result c.len-outputs.result c.from-instances.result c.routes.result.now
-    c.row_limit.ensures.value c.max.ensures c.len-outputs.ensures (c.routes.ensures.routes ∙ c.order.ensures.routes)
-    (c.from-instances.ensures ∙ c.instances.ensures.count))
+    above (c.row_limit_of.result * c.max.result) (size_for_nodes (run_of c.args.read.now.checked)) c.in-None.ensures
+    (size_as (run_of c.args.read.now.checked) c.row_limit_of.result c.max.result c.len-outputs.result c.from-instances.result c.routes.result.now
+    c.row_limit_of.ensures c.max.ensures c.len-outputs.ensures (c.routes.ensures.routes ∙ c.requires.routes)
+    (c.from-instances.ensures ∙ c.instances_of-instances.ensures))

@@ -1,4 +1,4 @@
-use Rattle.std.proofs.Common.{◌≡◌, ◌-◌, ℕ, List, length, drop, take, arith, subst}
+use Rattle.std.proofs.Common.{◌≡◌, ◌-◌, ℕ, List, length, take, arith, subst}
 use Rattle.std.proofs.lemmas.List.{length-drop, take_all}
 use Rattle.cosim_answers.proofs.RefusedLines.{refused_low}
 use Rattle.cosim_answers.specs.SavedAnswers.{text_behind}
