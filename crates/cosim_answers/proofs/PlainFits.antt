@@ -1,11 +1,11 @@
 -- A position fits a system as it is written exactly where it fits its plain form.
 use Rattle.std.proofs.Common.{◌≡◌, ℤ, ◌<◌, ◌≤◌, List, [], ◌∷◌, map, refl, subst, sym}
-use Rattle.std.specs.List.{AllZip}
+use Rattle.std.specs.List.{AllZip, flat_map}
 use Rattle.event_runs.specs.EventPorts.{EventMember}
 use Rattle.event_runs.specs.EventRuns.{event_members_of, event_run_of}
 use Rattle.event_runs.specs.Laws.{IsPlainRun}
 use Rattle.event_runs.specs.Offers.{Pace}
-use Rattle.event_runs.specs.Readings.{pace_of}
+use Rattle.event_runs.specs.Readings.{pace_of, plain_member, shape_of}
 use Rattle.event_runs.proofs.SystemTraces.{system_pace, system_plain}
 use Rattle.save_point.specs.Saving.{FitsSaved}
 use Rattle.save_point.specs.declared.reading.Saved.{Saved}
@@ -47,6 +47,9 @@ module _ (system : System) (whole : IsWhole system) (saved : Saved) (at : Positi
   plain : IsPlainRun (event_members_of system) (run_of system)
   plain = system_plain system whole.ranged whole.well_formed whole.ordered
 
+  abbrev own_plain : EventMember → Member
+  own_plain = plain_member (flat_map shape_of (event_members_of system))
+
   same_pace : pace_of (run_of system) ≡ (event_run_of system).pace
   same_pace = system_pace system whole.ranged whole.well_formed whole.ordered
 
@@ -57,7 +60,7 @@ module _ (system : System) (whole : IsWhole system) (saved : Saved) (at : Positi
     states = fits.position.states;
     names_are = fits.names_are;
     counts_are = fits.counts_are;
-    has_words = words_read _ (λ one. refl) (event_members_of system) at.states
+    has_words = words_read own_plain (λ one. refl) (event_members_of system) at.states
         (subst (λ members. AllZip (λ member state. AreWordsOf member.component.unit.states state) members at.states) plain.members_are fits.position.has_words);
     stop = subst (λ (pace : Pace). at.point.t ≤ pace.stop) same_pace fits.position.in_bounds.stop;
     zeros = subst (λ (pace : Pace). at.point.n ≤ pace.zero_budget) same_pace fits.position.in_bounds.zeros;
@@ -71,7 +74,7 @@ module _ (system : System) (whole : IsWhole system) (saved : Saved) (at : Positi
       there = fits.there;
       states = fits.states;
       has_words = subst (λ members. AllZip (λ member state. AreWordsOf member.component.unit.states state) members at.states) (sym plain.members_are)
-          (words_plain _ (λ one. refl) (event_members_of system) at.states fits.has_words);
+          (words_plain own_plain (λ one. refl) (event_members_of system) at.states fits.has_words);
       in_bounds = record {
         stop = subst (λ (pace : Pace). at.point.t ≤ pace.stop) (sym same_pace) fits.stop;
         zeros = subst (λ (pace : Pace). at.point.n ≤ pace.zero_budget) (sym same_pace) fits.zeros;
