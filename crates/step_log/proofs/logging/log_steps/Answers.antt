@@ -9,9 +9,18 @@ use Rattle.trace_core.specs.Runs.{IsOpened}
 use Rattle.trace_plan.specs.Plans.{Planned}
 use Rattle.trace_rows.proofs.DriveLaws.{composed_of, ended_by, going_on}
 use Rattle.trace_rows.proofs.RowLaws.{err_is, tells_given_up, tells_none}
-use Rattle.trace_rows.proofs.RunKept.{fewer_left, given_by, number_within}
+use Rattle.trace_rows.proofs.RunKept.{Given, fewer_left, given_by, number_within}
 use Rattle.unit_tree.specs.Successor.{first_position}
+use Rattle.step_log.proofs.logging.log_steps.Given as given
+use Rattle.step_log.proofs.logging.log_steps.Goals.{In_ok-run}
 use Rattle.step_log.proofs.logging.log_steps.Goals as goal
+
+-- The run was opened at the first position of its plan, which gives the bound of its rows.
+opened : (g : given.Over) (c : In_ok-run g) → IsOpened c.args.plan.value (first_position c.args.plan.value.run) c.in_ok-run.run'
+opened g c = subst (λ (p : Planned). IsOpened p (first_position p.run) c.in_ok-run.run') c.in_ok-clone.ensures.cases c.in_ok-run.ensures.opened
+
+kept : (g : given.Over) (c : In_ok-run g) → Given c.args.plan.value (first_position c.args.plan.value.run)
+kept g c = given_by c.args.plan.value (first_position c.args.plan.value.run) c.in_ok-run.run' (opened g c) c.in_ok-run.ensures.stands
 
 pub returns-in_err-put_header-clause-front : goal.returns-in_err-put_header-clause-front
 returns-in_err-put_header-clause-front g c =
@@ -22,8 +31,7 @@ pub rows-init : goal.rows-init
 rows-init g c =
     let plan = c.args.plan.value in
     let from = first_position plan.run in
-    let opened : IsOpened plan from c.in_ok-run.run' =
-    subst (λ (p : Planned). IsOpened p (first_position p.run) c.in_ok-run.run') c.in_ok-clone.ensures.cases c.in_ok-run.ensures.opened in
+    let opened = opened g (goal.at.rows-init g c).In_ok-run in
     logged_first plan from c.in_ok-run.run' (g.O.Sink.held c.args.out.now) (g.O.Sink.held c.put_header.new.out)
     (g.O.Sink.faults c.args.out.now) (g.O.Sink.faults c.put_header.new.out) opened c.in_ok-run.ensures.stands c.in_ok-put_header.ensures.whole
     (c.in_ok-put_header.ensures.cause.same (λ e. absurd (cc)))
@@ -32,8 +40,7 @@ pub returns-in_err-log_step-clause-front : goal.returns-in_err-log_step-clause-f
 returns-in_err-log_step-clause-front g c =
     let plan = c.args.plan.value in
     let from = first_position plan.run in
-    let opened : IsOpened plan from c.in_ok-run.run' =
-    subst (λ (p : Planned). IsOpened p (first_position p.run) c.in_ok-run.run') c.in_ok-clone.ensures.cases c.in_ok-run.ensures.opened in
+    let opened = opened g (goal.at.returns-in_err-log_step-clause-front g c).In_ok-run in
     on_err c.from_residual-in_err-log_step.result
     (front_logged plan from c.rows.run (g.O.Sink.held c.args.out.now) (g.O.Sink.held c.rows.out) (g.O.Sink.held c.log_step.new.out)
     (g.O.Sink.faults c.args.out.now) (g.O.Sink.faults c.rows.out) (composed_of plan from c.in_ok-run.run' opened c.in_ok-run.ensures.stands) refl
@@ -57,9 +64,7 @@ pub rows-smaller : goal.rows-smaller
 rows-smaller g c =
     let plan = c.args.plan.value in
     let from = first_position plan.run in
-    let opened : IsOpened plan from c.in_ok-run.run' =
-    subst (λ (p : Planned). IsOpened p (first_position p.run) c.in_ok-run.run') c.in_ok-clone.ensures.cases c.in_ok-run.ensures.opened in
-    let given = given_by plan from c.in_ok-run.run' opened c.in_ok-run.ensures.stands in
+    let given = kept g (goal.at.rows-smaller g c).In_ok-run in
     let on = going_on c.rows.run c.log_step.new.run c.in_ok-log_step.field-0 c.if-branch.true c.in_ok-log_step.ensures.went in
     let within = number_within plan from c.rows.run given c.rows.invariant.at.planned c.rows.invariant.at.stands in
     let next = fewer_left c.rows.run c.log_step.new.run on in
@@ -69,9 +74,7 @@ pub rows-preserved : goal.rows-preserved
 rows-preserved g c =
     let plan = c.args.plan.value in
     let from = first_position plan.run in
-    let opened : IsOpened plan from c.in_ok-run.run' =
-    subst (λ (p : Planned). IsOpened p (first_position p.run) c.in_ok-run.run') c.in_ok-clone.ensures.cases c.in_ok-run.ensures.opened in
-    let given = given_by plan from c.in_ok-run.run' opened c.in_ok-run.ensures.stands in
+    let given = kept g (goal.at.rows-preserved g c).In_ok-run in
     let on = going_on c.rows.run c.log_step.new.run c.in_ok-log_step.field-0 c.if-branch.true c.in_ok-log_step.ensures.went in
     logged_next plan from c.rows.run c.log_step.new.run (g.O.Sink.held c.args.out.now) (g.O.Sink.held c.rows.out) (g.O.Sink.held c.log_step.new.out)
     (g.O.Sink.faults c.args.out.now) (g.O.Sink.faults c.rows.out) (g.O.Sink.faults c.log_step.new.out) given c.rows.invariant on
@@ -84,9 +87,8 @@ pub returns-clause-whole : goal.returns-clause-whole
 returns-clause-whole g c =
     let plan = c.args.plan.value in
     let from = first_position plan.run in
-    let opened : IsOpened plan from c.in_ok-run.run' =
-    subst (λ (p : Planned). IsOpened p (first_position p.run) c.in_ok-run.run') c.in_ok-clone.ensures.cases c.in_ok-run.ensures.opened in
-    let given = given_by plan from c.in_ok-run.run' opened c.in_ok-run.ensures.stands in
+    let opened = opened g (goal.at.returns-clause-whole g c).In_ok-run in
+    let given = kept g (goal.at.returns-clause-whole g c).In_ok-run in
     let done =
     log_done plan from c.rows.run c.log_step.new.run (g.O.Sink.held c.args.out.now) (g.O.Sink.held c.rows.out) (g.O.Sink.held c.log_step.new.out)
     (g.O.Sink.faults c.args.out.now) (g.O.Sink.faults c.rows.out) given c.rows.invariant
