@@ -154,14 +154,18 @@ module _ (text : List ℕ) where
       let rest = own_rest_there system saved at whole fits in
       inr (rest.0, record { saved = saved; system = system; saves = in_text; at = at; fits = fits_read system whole saved at fits; tells = rest.1 })
   by_fit saved system in_text (inr none) =
-      inl (1, 33, inr (inr (inr (record {
-        saved = saved;
-        system = system;
-        saves = in_text;
-        none = λ at fits. none at (fits_plain system (whole_in saved system in_text) saved at fits);
-        at = refl;
-        by = refl;
-      }))))
+      inl (
+        1,
+        33,
+        inr (inr (inr (record {
+          saved = saved;
+          system = system;
+          saves = in_text;
+          none = λ at fits. none at (fits_plain system (whole_in saved system in_text) saved at fits);
+          at = refl;
+          by = refl;
+        }))),
+      )
 
   by_text : (saved : Saved) → length text ≤ saved_limit → IsSaved text saved
       → ((system : System) × (lines : List ℕ) × IsAcceptedAs (Behind saved) system lines)

@@ -35,10 +35,11 @@ use Rattle.cosim_call.specs.Answers.{Answer}
 use Rattle.cosim_answers.specs.Accepted.{OnAccepted, TellsTrace, planned, run_answer, traced_notes}
 use Rattle.cosim_answers.specs.Answer.{Answers, report_lines}
 use Rattle.cosim_answers.specs.Laws.{SavedRunsGoOn}
-use Rattle.cosim_answers.specs.SavedAnswers.{AnswersResume, AnswersSave, SavesIn, TellsRest, text_behind}
+use Rattle.cosim_answers.specs.SavedAnswers.{AnswersResume, AnswersSave, FitsSystem, SavesIn, TellsRest, text_behind}
 use Rattle.cosim_answers.proofs.CommandLaws.{traces_same}
 use Rattle.cosim_answers.proofs.OutputNames.{ends_alike, same_status}
 use Rattle.cosim_answers.proofs.RunLaws.{text_is, trace_told}
+use Rattle.cosim_answers.proofs.PlainFits.{fits_plain, fits_read}
 use Rattle.cosim_answers.proofs.PlainRests.{TellsPlainRest, plain_position}
 use Rattle.cosim_answers.proofs.SavedLaws.{as_plain, own_rest_there, resume_lawful}
 use Rattle.cosim_answers.proofs.TraceLaws.{IsWhole, whole_of}
@@ -206,7 +207,14 @@ module _ (row : ℕ) (text : List ℕ) (saved : Answer) (of : AnswersSave row te
   served : (answer : Answer) × AnswersResume saved.out answer
   served = (
     (own_rest_there of.system (saved_of of.system place) place (whole_of text of.system of.lines of.accepted) resumable.fits).0,
-    record { saved = saved_of of.system place; system = of.system; saves = saves_in; at = place; fits = resumable.fits; tells = rests },
+    record {
+      saved = saved_of of.system place;
+      system = of.system;
+      saves = saves_in;
+      at = place;
+      fits = fits_read of.system (whole_of text of.system of.lines of.accepted) (saved_of of.system place) place resumable.fits;
+      tells = rests;
+    },
   )
 
   serves : (resumed : Answer) → Answers Resume saved.out resumed → AnswersResume saved.out resumed
