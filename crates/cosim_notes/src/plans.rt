@@ -33,7 +33,7 @@ pub fn make_plan(alloc: Global, read: AcceptedText) -> Result<Arc<Plan>, NoMemor
     let plan = Plan::ordered(alloc, read.checked, read.order)?;
     // Called for its clauses, which state that the plan's run is that of its system's plain form.
     let _ = plan.checked();
-    Arc::new(alloc, plan)
+    Ok(Arc::new(alloc, plan)?)
 }
 
 /// Returns the plan of the system of a text, or the text's refusal.
