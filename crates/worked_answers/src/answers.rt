@@ -4,8 +4,8 @@ ghost use Rattle.worked_answers.specs.WorkedEventRuns.{EventRunsAreWorked};
 ghost use Rattle.worked_answers.specs.WorkedGroups.{GroupRulesAreWorked};
 ghost use Rattle.worked_answers.specs.WorkedNests.{NestsAreFlat};
 ghost use Rattle.worked_answers.specs.WorkedParts.{PartsAreWorked};
-ghost use Rattle.worked_answers.specs.WorkedSaved.{SavedTextsAreWorked};
-ghost use Rattle.worked_answers.specs.WorkedTables.{TablesAreWorked};
+ghost use Rattle.worked_answers.specs.WorkedSaved.{SavedFormsAreWorked, SavedTextsAreWorked};
+ghost use Rattle.worked_answers.specs.WorkedTables.{TableFormsAreWorked, TablesAreWorked};
 ghost use Rattle.worked_answers.specs.WorkedVerdicts.{VerdictsAreWorked};
 
 /// A law: the flat systems of nests are those that were worked out by hand.
@@ -41,6 +41,16 @@ pub fn verdicts_are_worked()
 /// A law: the texts of systems that play tables are those that were worked out by hand.
 pub fn tables_are_worked()
     ensures { TablesAreWorked }
+{}
+
+/// A law: records leave the form of a table where that was worked out by hand.
+pub fn table_forms_are_worked()
+    ensures { TableFormsAreWorked }
+{}
+
+/// A law: texts are no saved texts from the line on that was worked out by hand.
+pub fn saved_forms_are_worked()
+    ensures { SavedFormsAreWorked }
 {}
 
 /// A law: the saved texts of positions are those that were worked out by hand.
