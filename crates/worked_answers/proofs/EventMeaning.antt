@@ -1,5 +1,5 @@
 -- The events of expressions and the effects of lines where events occur at some inputs, in an environment that is given.
-use Rattle.std.proofs.Common.{◌≡◌, List, map, Some, None, Result, Ok, if◌then◌else◌, ap, sym, ◌∙◌}
+use Rattle.std.proofs.Common.{◌≡◌, List, map, None, Ok, if◌then◌else◌, ap, sym, ◌∙◌}
 use Rattle.std.specs.Prelude.{ℕ}
 use Rattle.unit_tree.specs.Effects.{Effect}
 use Rattle.unit_tree.specs.Values.{◌>>=◌, holds}

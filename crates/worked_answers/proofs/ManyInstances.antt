@@ -9,7 +9,7 @@ use Rattle.fixed_words.specs.declared.types.Ty.TheVariants.{Int64}
 use Rattle.model_rules.specs.Limits.{line_limit, text_limit}
 use Rattle.text_tokens.specs.Scanning.{keyword_of}
 use Rattle.text_tokens.proofs.TableLemmas.{keyword_of_none}
-use Rattle.unit_tree.specs.Canonical.{canonical_forms, canonical_text, line_text}
+use Rattle.unit_tree.specs.Canonical.{canonical_text, line_text}
 use Rattle.unit_tree.specs.LineForms.{tail_of}
 use Rattle.unit_tree.specs.Names.{names_in}
 use Rattle.unit_tree.specs.Printable.{IsInRange, IsPrintable, is_writable, names_on}

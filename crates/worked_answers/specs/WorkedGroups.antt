@@ -1,4 +1,6 @@
--- Rules of groups, worked out by hand: for each rule a nest that breaks it, and one that is close to it and keeps it.
+-- Rules 27 to 30, worked out by hand. For each rule there are nests that break it, one of them with the line, and a nest that is
+-- close to these and keeps it. That a nest keeps rule 27 or 29 is stated by the test of one group or of `main`, that it keeps
+-- rule 28 for all lines, and that it keeps rule 30 by its size.
 use Rattle.std.specs.Prelude.{◌≡◌, ℕ, pos, true, false, List, [], ◌∷◌, codes, map}
 use Rattle.std.specs.List.{repeat}
 use Rattle.fixed_words.specs.declared.types.Literal.TheVariants as literal

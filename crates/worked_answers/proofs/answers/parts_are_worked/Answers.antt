@@ -133,75 +133,90 @@ before_groups_is : BreaksParts (text_of (codes "# a model" ∷ codes "cosim 1" �
 before_groups_is = record {
   lines = comment 1 ∷ header 2 ∷ group 3 ∷ main 4 ∷ [];
   are_lines = (comment_is 1, (header_is 2, (group_is 3, (main_is 4, _))));
-  breaks = inr (refl, record {
-    before = comment 1 ∷ [];
-    line = header 2;
-    later = group 3 ∷ main 4 ∷ [];
-    cut = refl;
-    before_placed = refl;
-    stray = refl;
-    is_number = refl;
-  });
+  breaks = inr (
+    refl,
+    record {
+      before = comment 1 ∷ [];
+      line = header 2;
+      later = group 3 ∷ main 4 ∷ [];
+      cut = refl;
+      before_placed = refl;
+      stray = refl;
+      is_number = refl;
+    },
+  );
 }
 
 stop_in_group_is : BreaksParts (text_of (codes "group G" ∷ codes "  stop 3" ∷ codes "main" ∷ codes "stop 3" ∷ [])) 2
 stop_in_group_is = record {
   lines = group 1 ∷ stop_inside 2 ∷ main 3 ∷ stop 4 ∷ [];
   are_lines = (group_is 1, (stop_inside_is 2, (main_is 3, (stop_is 4, _))));
-  breaks = inr (refl, record {
-    before = group 1 ∷ [];
-    line = stop_inside 2;
-    later = main 3 ∷ stop 4 ∷ [];
-    cut = refl;
-    before_placed = refl;
-    stray = refl;
-    is_number = refl;
-  });
+  breaks = inr (
+    refl,
+    record {
+      before = group 1 ∷ [];
+      line = stop_inside 2;
+      later = main 3 ∷ stop 4 ∷ [];
+      cut = refl;
+      before_placed = refl;
+      stray = refl;
+      is_number = refl;
+    },
+  );
 }
 
 in_a_block_is : BreaksParts (text_of (codes "group G" ∷ codes "instance k : Next" ∷ codes "in x -> k.x" ∷ codes "end" ∷ codes "main" ∷ [])) 3
 in_a_block_is = record {
   lines = group 1 ∷ instance 2 ∷ input 3 ∷ end 4 ∷ main 5 ∷ [];
   are_lines = (group_is 1, (instance_is 2, (input_is 3, (end_is 4, (main_is 5, _)))));
-  breaks = inr (refl, record {
-    before = group 1 ∷ instance 2 ∷ [];
-    line = input 3;
-    later = end 4 ∷ main 5 ∷ [];
-    cut = refl;
-    before_placed = refl;
-    stray = refl;
-    is_number = refl;
-  });
+  breaks = inr (
+    refl,
+    record {
+      before = group 1 ∷ instance 2 ∷ [];
+      line = input 3;
+      later = end 4 ∷ main 5 ∷ [];
+      cut = refl;
+      before_placed = refl;
+      stray = refl;
+      is_number = refl;
+    },
+  );
 }
 
 other_sign_is : BreaksParts (text_of (codes "group G" ∷ codes "instance k : Next" ∷ codes "end" ∷ codes "in x -> k.x" ∷ codes "in x = k.x" ∷ codes "main" ∷ [])) 5
 other_sign_is = record {
   lines = group 1 ∷ instance 2 ∷ end 3 ∷ input 4 ∷ other_input 5 ∷ main 6 ∷ [];
   are_lines = (group_is 1, (instance_is 2, (end_is 3, (input_is 4, (other_input_is 5, (main_is 6, _))))));
-  breaks = inr (refl, record {
-    before = group 1 ∷ instance 2 ∷ end 3 ∷ input 4 ∷ [];
-    line = other_input 5;
-    later = main 6 ∷ [];
-    cut = refl;
-    before_placed = refl;
-    stray = refl;
-    is_number = refl;
-  });
+  breaks = inr (
+    refl,
+    record {
+      before = group 1 ∷ instance 2 ∷ end 3 ∷ input 4 ∷ [];
+      line = other_input 5;
+      later = main 6 ∷ [];
+      cut = refl;
+      before_placed = refl;
+      stray = refl;
+      is_number = refl;
+    },
+  );
 }
 
 second_main_is : BreaksParts (text_of (codes "group G" ∷ codes "main" ∷ codes "stop 3" ∷ codes "main" ∷ [])) 4
 second_main_is = record {
   lines = group 1 ∷ main 2 ∷ stop 3 ∷ main 4 ∷ [];
   are_lines = (group_is 1, (main_is 2, (stop_is 3, (main_is 4, _))));
-  breaks = inr (refl, record {
-    before = group 1 ∷ main 2 ∷ stop 3 ∷ [];
-    line = main 4;
-    later = [];
-    cut = refl;
-    before_placed = refl;
-    stray = refl;
-    is_number = refl;
-  });
+  breaks = inr (
+    refl,
+    record {
+      before = group 1 ∷ main 2 ∷ stop 3 ∷ [];
+      line = main 4;
+      later = [];
+      cut = refl;
+      before_placed = refl;
+      stray = refl;
+      is_number = refl;
+    },
+  );
 }
 
 no_main_is : BreaksParts (text_of (codes "group G" ∷ codes "stop 3" ∷ [])) 1

@@ -8,7 +8,7 @@ use Rattle.list_laws.proofs.Truths.{true_is_false}
 use Rattle.super_time.specs.declared.point.Point.{Point}
 use Rattle.unit_tree.specs.Lines.{lines_of, without_return}
 use Rattle.save_point.specs.Reading.{word_in}
-use Rattle.save_point.specs.SavedTexts.{BreaksState, IsFirstLine, IsRowLine, IsTitleLine, LacksPoint, LacksRow, NamedState, number_limit, title_line}
+use Rattle.save_point.specs.SavedTexts.{BreaksState, IsFirstLine, IsRowLine, IsTitleLine, LacksPoint, LacksRow, NamedState, number_limit}
 use Rattle.save_point.proofs.LineLaws.{lacks_all, lacks_this}
 use Rattle.save_point.proofs.ReadStates.{no_state}
 use Rattle.worked_answers.specs.WorkedTables.{text_of}
@@ -99,8 +99,11 @@ breaks_state = record {
 pub returns : goal.returns
 returns c = record {
   empty = inl (refl, lacks_all IsTitleLine [] refl);
-  other_version = inl (refl, lacks_this IsTitleLine (text_of (codes "saved 2" ∷ codes "row 2" ∷ [])) (codes "saved 2") (text_of (codes "row 2" ∷ []))
-      (first_line (codes "saved 2") (text_of (codes "row 2" ∷ [])) refl refl) no_title);
+  other_version = inl (
+    refl,
+    lacks_this IsTitleLine (text_of (codes "saved 2" ∷ codes "row 2" ∷ [])) (codes "saved 2") (text_of (codes "row 2" ∷ []))
+        (first_line (codes "saved 2") (text_of (codes "row 2" ∷ [])) refl refl) no_title,
+  );
   needless_zero = inr (inl (refl, lacks_row));
   no_point = inr (inr (inl (refl, lacks_point)));
   two_spaces = inr (inr (inr breaks_state));
