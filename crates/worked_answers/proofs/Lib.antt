@@ -1,0 +1,3 @@
+mod EventMeaning
+mod ManyInstances
+mod NeedlessZeros

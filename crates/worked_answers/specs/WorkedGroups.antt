@@ -1,4 +1,6 @@
--- Rules of groups, worked out by hand: for each rule a nest that breaks it, and one that is close to it and keeps it.
+-- Rules 27 to 30, worked out by hand. For each rule there are nests that break it, one of them with the line, and a nest that is
+-- close to these and keeps it. That a nest keeps rule 27 or 29 is stated by the test of one group or of `main`, that it keeps
+-- rule 28 for all lines, and that it keeps rule 30 by its size.
 use Rattle.std.specs.Prelude.{◌≡◌, ℕ, pos, true, false, List, [], ◌∷◌, codes, map}
 use Rattle.std.specs.List.{repeat}
 use Rattle.fixed_words.specs.declared.types.Literal.TheVariants as literal
@@ -53,11 +55,24 @@ pub record NamesAreWorked : Type 0 where
 abbrev pub around : List ℕ → List ℕ → Group
 around name inner = record { name = name; ins = []; outs = []; instances = instance_of (codes "k") inner ∷ []; wires = [] }
 
+-- `G` has an instance of `H`, and `H` has a component.
+abbrev pub in_a_row : Nest
+in_a_row = nest_of (around (codes "G") (codes "H") ∷ around (codes "H") (codes "Next") ∷ []) one_of_g [] []
+
+-- `G` has an instance of `H`, which contains itself.
+abbrev pub around_another : Nest
+around_another = nest_of (around (codes "G") (codes "H") ∷ around (codes "H") (codes "H") ∷ []) one_of_g [] []
+
 pub record NestingIsWorked : Type 0 where
   pub itself : ContainsItself (nest_of (around (codes "G") (codes "G") ∷ []) one_of_g [] []) 0
   -- Two groups contain each other. The first of them is at line 3.
   pub each_other : ContainsItself (nest_of (around (codes "G") (codes "H") ∷ around (codes "H") (codes "G") ∷ []) one_of_g [] []) 0
   pub at_line : BreaksNest (nest_of (around (codes "G") (codes "H") ∷ around (codes "H") (codes "G") ∷ []) one_of_g [] []) 3 28
+  -- One group is in another: the rule is kept.
+  pub kept : (line : ℕ) → BreaksNest in_a_row line 28 → ⊥
+  -- A group that has such a group inside is not named: the rule is broken at the line of the inner one alone.
+  pub inner_alone : BreaksNest around_another 9 28
+  pub not_outer : ContainsItself around_another 0 → ⊥
 
 -- ---- Rule 29: ports of groups
 
@@ -97,7 +112,14 @@ pub record PortsOfGroupsAreWorked : Type 0 where
 abbrev pub many : ℕ → Group
 many count = record { name = codes "G"; ins = []; outs = []; instances = repeat count (instance_of (codes "k") (codes "Next") ∷ []); wires = [] }
 
+-- One instance of a group with so many components.
+abbrev pub one_with : ℕ → Nest
+one_with count = nest_of (many count ∷ []) one_of_g [] []
+
 pub record SizesAreWorked : Type 0 where
+  -- 64 components are not too many, and 65 are.
+  pub at_limit : IsTooLarge (one_with 64) → ⊥
+  pub above_limit : IsTooLarge (one_with 65)
   -- Two instances of a group with 33 components make 66.
   pub too_many : IsTooLarge (nest_of (many 33 ∷ []) (instance_of (codes "r") (codes "G") ∷ instance_of (codes "s") (codes "G") ∷ []) [] [])
   pub at_main : BreaksNest (nest_of (many 33 ∷ []) (instance_of (codes "r") (codes "G") ∷ instance_of (codes "s") (codes "G") ∷ []) [] []) 20 30

@@ -1,6 +1,6 @@
--- The saved text of a position, worked out by hand.
-use Rattle.std.specs.Prelude.{◌≡◌, pos, negsuc, [], ◌∷◌, codes}
-use Rattle.save_point.specs.SavedTexts.{saved_text}
+-- The saved text of a position, and texts that are no saved texts, worked out by hand.
+use Rattle.std.specs.Prelude.{◌≡◌, ℕ, pos, negsuc, List, [], ◌∷◌, codes}
+use Rattle.save_point.specs.SavedTexts.{BreaksAtLine, saved_text}
 use Rattle.stimulus_tables.specs.TableSystems.{table_system}
 use Rattle.unit_tree.specs.Successor.{Position}
 use Rattle.worked_answers.specs.WorkedTables.{moment, text_of}
@@ -35,3 +35,20 @@ pub record SavedTextsAreWorked : Type 0 where
       ∷ codes "end"
       ∷ codes "stop 7"
       ∷ [])
+
+-- ---- Rule 32: texts that are no saved texts
+
+-- The text with these lines breaks the rule at the line.
+abbrev pub NotSaved : List (List ℕ) → ℕ → Type 0
+NotSaved lines number = BreaksAtLine (text_of lines) number
+
+pub record SavedFormsAreWorked : Type 0 where
+  -- A text without a line, and one of another version.
+  pub empty : NotSaved [] 1
+  pub other_version : NotSaved (codes "saved 2" ∷ codes "row 2" ∷ []) 1
+  -- A row with a needless zero.
+  pub needless_zero : NotSaved (codes "saved 1" ∷ codes "row 02" ∷ codes "at 2 0" ∷ codes "state a 2" ∷ []) 2
+  -- There is no line of a point.
+  pub no_point : NotSaved (codes "saved 1" ∷ codes "row 2" ∷ []) 3
+  -- The second state has two spaces between its name and its word.
+  pub two_spaces : NotSaved (codes "saved 1" ∷ codes "row 2" ∷ codes "at 2 0" ∷ codes "state a 2" ∷ codes "state b  3" ∷ codes "cosim 1" ∷ []) 5

@@ -1,7 +1,8 @@
--- The texts of systems that play tables, worked out by hand.
+-- The texts of systems that play tables, and records that are no table, worked out by hand.
 use Rattle.std.specs.Prelude.{◌≡◌, ℕ, ℤ, pos, negsuc, List, [], ◌∷◌, ◌++◌, codes}
 use Rattle.std.specs.List.{flat_map}
 use Rattle.stimulus_tables.specs.TableSystems.{table_system}
+use Rattle.stimulus_tables.specs.Tables.{Fields, LeavesForm}
 use Rattle.stimulus_tables.specs.declared.moment.Moment.{Moment}
 use Rattle.unit_tree.specs.Canonical.{canonical_text}
 
@@ -67,3 +68,23 @@ pub record TablesAreWorked : Type 0 where
       ∷ codes "end"
       ∷ codes "stop 10"
       ∷ [])
+
+-- ---- Rule 36: records that are no table
+
+-- A record with these two fields.
+abbrev pub pair : List ℕ → List ℕ → Fields
+pair first second = first ∷ second ∷ []
+
+pub record TableFormsAreWorked : Type 0 where
+  -- There is no record, or the first one is no head: its first field is another word, there is no column, or a name is reserved.
+  pub empty : LeavesForm [] 1
+  pub other_word : LeavesForm (pair (codes "Time") (codes "v") ∷ pair (codes "0") (codes "5") ∷ []) 1
+  pub no_column : LeavesForm ((codes "time" ∷ []) ∷ []) 1
+  pub reserved : LeavesForm (pair (codes "time") (codes "s15") ∷ []) 1
+  -- There is no record after the head.
+  pub no_moment : LeavesForm (pair (codes "time") (codes "v") ∷ []) 2
+  -- A record has no word for the column, or one with a needless zero.
+  pub no_word : LeavesForm (pair (codes "time") (codes "v") ∷ (codes "0" ∷ []) ∷ []) 2
+  pub needless_zero : LeavesForm (pair (codes "time") (codes "v") ∷ pair (codes "0") (codes "05") ∷ []) 2
+  -- The time is that of the record before.
+  pub same_time : LeavesForm (pair (codes "time") (codes "v") ∷ pair (codes "0") (codes "5") ∷ pair (codes "0") (codes "6") ∷ []) 3
