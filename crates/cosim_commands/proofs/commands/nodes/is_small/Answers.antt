@@ -24,7 +24,7 @@ returns-in-Some c =
     (c.in-Some.ensures.1
     ∙ size_as (run_of c.args.read.now.checked) c.row_limit_of.result c.max.result c.len-outputs.result c.from-instances.result c.routes.result.now
     c.row_limit_of.ensures c.max.ensures c.len-outputs.ensures (c.routes.ensures.routes ∙ c.requires.routes)
-    (c.from-instances.ensures ∙ c.instances_of-instances.ensures))
+    (c.from-instances.ensures ∙ c.instances_of.ensures))
 
 -- A product that does not fit a word is more than the limit.
 above : (product size : ℕ) → (product < 18446744073709551616 → ⊥) → product ≡ size → false ≡ nat_le size nodes_limit
@@ -39,4 +39,4 @@ returns-in-None c =
     above (c.row_limit_of.result * c.max.result) (size_for_nodes (run_of c.args.read.now.checked)) c.in-None.ensures
     (size_as (run_of c.args.read.now.checked) c.row_limit_of.result c.max.result c.len-outputs.result c.from-instances.result c.routes.result.now
     c.row_limit_of.ensures c.max.ensures c.len-outputs.ensures (c.routes.ensures.routes ∙ c.requires.routes)
-    (c.from-instances.ensures ∙ c.instances_of-instances.ensures))
+    (c.from-instances.ensures ∙ c.instances_of.ensures))

@@ -76,7 +76,7 @@ returns-in_err-nodes g c =
     let read = c.in_ok-read.read in
     let plan = c.in_ok-plan.plan.value in
     let text = c.args.text.now in
-    let accepted = (read.lines, c.in_ok-read.ensures.0) in
+    let accepted : IsAccepted text read.checked = (read.lines, c.in_ok-read.ensures.0) in
     let small = within (size_for_nodes (run_of read.checked)) nodes_limit c.is_small.ensures c.if-not-is_small.false in
     handed_on (Serves (Answers (Nodes c.args.asked) text) out out') c.from_residual-in_err-nodes.result c.in_err-nodes.field-0.0
     c.from_residual-in_err-nodes.ensures.1
@@ -91,7 +91,7 @@ returns g c =
     let read = c.in_ok-read.read in
     let plan = c.in_ok-plan.plan.value in
     let text = c.args.text.now in
-    let accepted = (read.lines, c.in_ok-read.ensures.0) in
+    let accepted : IsAccepted text read.checked = (read.lines, c.in_ok-read.ensures.0) in
     let small = within (size_for_nodes (run_of read.checked)) nodes_limit c.is_small.ensures c.if-not-is_small.false in
     rounds_told c.args.asked text plan (own text read.checked accepted plan c.in_ok-plan.ensures small)
     (whole text read.checked accepted plan c.in_ok-plan.ensures small) (fits text read.checked accepted plan c.in_ok-plan.ensures small)
