@@ -1,6 +1,6 @@
-//! Calls whose runs wait for their workers.
+//! Calls whose runs wait for their workers, and a call with the gate that never waits.
 
-use cosim_commands::{Status, cosim, cosim_alone, cosim_gated};
+use cosim_commands::{Status, cosim, cosim_gated};
 use cosim_io::{MemSink, MemSource};
 use std::alloc::Global;
 use std::cell::Cell;
@@ -9,9 +9,17 @@ use std::test::Fail;
 use std::thread::Threads;
 use work_crew::Gate;
 
-/// It makes three steps, and has no input, so that each guess is right.
-const COUNTER: &[u8] =
-    b"cosim 1\nunit Counter\nstate n : Int64 = 0\noutput y : Int64 = n\nstep\nn := n + 1\nend\nend\ninstance a : Counter\nend\nstop 3\nlongest 1\n";
+/// The input of each instance is its own output, which rises by 1 at each row.
+const RISING: &[u8] =
+    b"cosim 1\nunit Counter\nstate n : Int64 = 0\ninput u : Int64 = 0\noutput y : Int64 = n\nstep\nn := n + 1\nend\nend\ninstance a : Counter\nend\ninstance b : Counter\nend\nconnect a.y -> a.u\nconnect b.y -> b.u\nstop 20\nlongest 1\n";
+
+const ROWS: &[u8] =
+    b"time,index,a.y,b.y\n0,0,0,0\n1,0,1,1\n2,0,2,2\n3,0,3,3\n4,0,4,4\n5,0,5,5\n6,0,6,6\n7,0,7,7\n8,0,8,8\n9,0,9,9\n10,0,10,10\n11,0,11,11\n12,0,12,12\n13,0,13,13\n14,0,14,14\n15,0,15,15\n16,0,16,16\n17,0,17,17\n18,0,18,18\n19,0,19,19\n20,0,20,20\n";
+
+/// A system whose figures are those of `tests/generated.txt`.
+const BENCH: &[&str] = &["bench", "--seed", "0", "--instances", "2", "--rows", "3"];
+
+const FIGURES: &[u8] = b"instances 2\nrows 3\nlast 2,0\nsum 2138\n";
 
 /// The last turn for which a gate is called.
 const LAST_TURN: u64 = 19_999_999;
@@ -51,104 +59,136 @@ fn owned(alloc: Global, words: &[&str]) -> Result<Vec<String>, Fail> {
     Ok(line)
 }
 
-/// Returns a source of the text, and sinks with space for the output and the notes.
-fn streams(alloc: Global, text: &[u8]) -> Result<(MemSource, MemSink, MemSink), Fail> {
-    let text = Vec::from_slice(alloc, text)?;
-    Ok((
-        MemSource::new(text, Vec::new(alloc)),
-        MemSink::new(alloc, 256, Vec::new(alloc))?,
-        MemSink::new(alloc, 256, Vec::new(alloc))?,
-    ))
+/// What a call gets and gives.
+#[derive(Drop)]
+struct Streams {
+    words: Vec<String>,
+    source: MemSource,
+    out: MemSink,
+    notes: MemSink,
 }
 
-/// Returns the numbers of a line of counts.
-fn numbers(alloc: Global, note: &[u8]) -> Result<Vec<u64>, Fail> {
-    let mut numbers = Vec::new(alloc);
-    let mut number: Option<u64> = None;
-    for byte in note.iter() {
+/// Returns the streams of a call with these words and this text, with space for the output and the notes.
+fn streams_of(alloc: Global, words: &[&str], text: &[u8]) -> Result<Streams, Fail> {
+    let words = owned(alloc, words)?;
+    let text = Vec::from_slice(alloc, text)?;
+    Ok(Streams {
+        words,
+        source: MemSource::new(text, Vec::new(alloc)),
+        out: MemSink::new(alloc, 256, Vec::new(alloc))?,
+        notes: MemSink::new(alloc, 256, Vec::new(alloc))?,
+    })
+}
+
+/// Returns the numbers of a line of counts, and 0 where it has fewer.
+fn numbers(note: &[u8]) -> [u64; 7] {
+    let mut numbers = [0u64; 7];
+    let mut place: usize = 0;
+    let mut is_within = false;
+    for byte in note {
         if byte.is_ascii_digit() {
-            let front = number.unwrap_or(0).wrapping_mul(10);
-            number = Some(front.wrapping_add(u64::from(byte.wrapping_sub(b'0'))));
-        } else if let Some(whole) = number.take() {
-            numbers.push(whole)?;
+            is_within = true;
+            if place < 7 {
+                let front = numbers[place].wrapping_mul(10);
+                numbers[place] = front.wrapping_add(u64::from(byte.wrapping_sub(b'0')));
+            }
+        } else if is_within {
+            is_within = false;
+            place = place.saturating_add(1);
         }
     }
-    Ok(numbers)
+    numbers
 }
 
+/// Makes a call. Returns the counts of its note if it ends with status 0 and this output.
+fn call<R: Threads + Wait + Copy + Send + Drop + 'static, G: Gate>(
+    rt: R,
+    alloc: Global,
+    streams: &mut Streams,
+    output: &[u8],
+    gate: &G,
+) -> Option<[u64; 7]> {
+    let Streams {
+        words,
+        source,
+        out,
+        notes,
+    } = streams;
+    let status = cosim_gated(rt, alloc, words, source, out, notes, gate);
+    if status == Status::Done && out.bytes() == output {
+        Some(numbers(notes.bytes()))
+    } else {
+        None
+    }
+}
+
+/// Makes a call with these words and this text.
+fn counts_of<R: Threads + Wait + Copy + Send + Drop + 'static, G: Gate>(
+    rt: R,
+    alloc: Global,
+    words: &[&str],
+    text: &[u8],
+    output: &[u8],
+    gate: &G,
+) -> Result<[u64; 7], Fail> {
+    let mut streams = streams_of(alloc, words, text)?;
+    let counts = call(rt, alloc, &mut streams, output, gate);
+    drop(streams);
+    match counts {
+        Some(counts) => Ok(counts),
+        None => Err("another status or output")?,
+    }
+}
+
+/// While the run waits for each answer, a window of one row takes a ticket for each step, and so does any other window where each guess
+/// is wrong. Where lines are guessed, the answers of some tickets are those of several rows. The counts are sums over both lanes: one
+/// alone has at most 20 tickets.
 #[test]
-fn what_a_worker_answers_is_taken(rt: HostRuntime) -> Result<(), Fail> {
-    let alloc = rt.alloc();
-    let words = owned(alloc, &["run", "--workers", "1", "--report"])?;
-    let (mut source, mut out, mut notes) = streams(alloc, COUNTER)?;
-    let gate = Waits::new();
-    let status = cosim_gated(rt, alloc, &words, &mut source, &mut out, &mut notes, &gate);
-    assert_eq!(rt; status, Status::Done);
-    assert_eq!(rt;
-        out.bytes(),
-        &b"time,index,a.y\n0,0,0\n1,0,1\n2,0,2\n3,0,3\n"[..]
-    );
-    let told = numbers(alloc, notes.bytes())?;
-    let [rows, found, own, tickets, posted, _, lapsed] = told.as_slice() else {
-        return Err(Fail::new("six counts behind that of rows"));
-    };
-    assert_eq!(rt; (*rows, found.checked_add(*own), *lapsed), (4, Some(3), 0));
-    assert!(rt; *found >= 1 && *tickets >= 1 && *posted >= 1);
+fn answers_are_taken_of_as_many_rows_as_are_guessed_right(rt: HostRuntime) -> Result<(), Fail> {
+    for (window, guess, is_ahead) in [
+        ("16", "linear", true),
+        ("16", "hold", false),
+        ("1", "linear", false),
+    ] {
+        let words = [
+            "run",
+            "--workers",
+            "1",
+            "--window",
+            window,
+            "--guess",
+            guess,
+            "--report",
+        ];
+        let gate = Waits::new();
+        let [rows, found, own, _, posted, _, _] = counts_of(
+            rt,
+            rt.alloc(),
+            &words,
+            RISING,
+            ROWS,
+            &gate,
+        )?;
+        assert_eq!(rt; (rows, found.checked_add(own)), (21, Some(40)));
+        assert!(rt; found >= 30);
+        assert_eq!(rt; posted < found, is_ahead, "{window} {guess}");
+    }
     Ok(())
 }
 
-#[test]
-fn a_call_without_a_gate_prints_the_trace(rt: HostRuntime) -> Result<(), Fail> {
-    let alloc = rt.alloc();
-    let words = owned(alloc, &["run", "--workers", "1"])?;
-    let (mut source, mut out, mut notes) = streams(alloc, COUNTER)?;
-    let status = cosim(rt, alloc, &words, &mut source, &mut out, &mut notes);
-    assert_eq!(rt; status, Status::Done);
-    assert_eq!(rt;
-        out.bytes(),
-        &b"time,index,a.y\n0,0,0\n1,0,1\n2,0,2\n3,0,3\n"[..]
-    );
-    assert_eq!(rt; notes.bytes(), &b""[..]);
-    Ok(())
-}
-
-/// With a window of 0 no step is planned, so workers get no ticket.
-#[test]
-fn the_window_of_the_words_is_used(rt: HostRuntime) -> Result<(), Fail> {
-    let alloc = rt.alloc();
-    let words = owned(
-        alloc,
-        &["run", "--workers", "1", "--window", "0", "--report"],
-    )?;
-    let (mut source, mut out, mut notes) = streams(alloc, COUNTER)?;
-    let status = cosim(rt, alloc, &words, &mut source, &mut out, &mut notes);
-    assert_eq!(rt; status, Status::Done);
-    let told = numbers(alloc, notes.bytes())?;
-    assert_eq!(rt; told.as_slice(), [4, 0, 3, 0, 0, 0, 0].as_slice());
-    Ok(())
-}
-
-/// Returns whether `bench` called a gate, wrote the same as without workers, and each wait had success.
+/// Returns whether `bench` called a gate, and each wait had success.
 fn bench_waits<R: Threads + Wait + Copy + Send + Drop + 'static>(
     rt: R,
     alloc: Global,
 ) -> Result<bool, Fail> {
-    let words = owned(
-        alloc,
-        &["bench", "--seed", "1", "--instances", "3", "--rows", "4"],
-    )?;
-    let (mut source, mut out, mut notes) = streams(alloc, b"")?;
     let gate = Waits::new();
-    let status = cosim_gated(rt, alloc, &words, &mut source, &mut out, &mut notes, &gate);
-    let (mut source, mut alone, mut notes) = streams(alloc, b"")?;
-    let status_alone = cosim_alone(alloc, &words, &mut source, &mut alone, &mut notes);
-    if status != Status::Done || status_alone != Status::Done || out.bytes() != alone.bytes() {
-        return Err(Fail::new("the figures of a run without workers"));
+    let counts = counts_of(rt, alloc, BENCH, b"", FIGURES, &gate);
+    let (asked, in_vain) = (gate.asked.get(), gate.in_vain.get());
+    counts?;
+    if in_vain {
+        Err("a wait in vain")?;
     }
-    if gate.in_vain.get() {
-        return Err(Fail::new("a wait that ends"));
-    }
-    Ok(gate.asked.get())
+    Ok(asked)
 }
 
 #[test]
@@ -159,5 +199,29 @@ fn bench_has_workers(rt: HostRuntime) -> Result<(), Fail> {
             return Ok(());
         }
     }
-    Err(Fail::new("the gate was never asked"))
+    Err("the gate was never asked")?
+}
+
+/// Returns whether the call without a gate has status 0 and the figures.
+fn ends_without_a_gate<R: Threads + Wait + Copy + Send + Drop + 'static>(
+    rt: R,
+    alloc: Global,
+    streams: &mut Streams,
+) -> bool {
+    let Streams {
+        words,
+        source,
+        out,
+        notes,
+    } = streams;
+    cosim(rt, alloc, words, source, out, notes) == Status::Done && out.bytes() == FIGURES
+}
+
+#[test]
+fn a_call_without_a_gate_prints_the_figures(rt: HostRuntime) -> Result<(), Fail> {
+    let mut streams = streams_of(rt.alloc(), BENCH, b"")?;
+    let ends = ends_without_a_gate(rt, rt.alloc(), &mut streams);
+    drop(streams);
+    assert!(rt; ends);
+    Ok(())
 }

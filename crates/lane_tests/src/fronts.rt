@@ -56,10 +56,12 @@ pub(crate) fn publish(
     state: &[i64],
     line: Vec<Cell>,
 ) -> Result<u32, Fail> {
-    if !fits(lane.image(), row, state, &line) {
-        Err("the front does not fit the lane")?;
+    if fits(lane.image(), row, state, &line) {
+        Ok(lane.publish(alloc, row, state, line)?)
+    } else {
+        drop(line);
+        Err("the front does not fit the lane")?
     }
-    Ok(lane.publish(alloc, row, state, line)?)
 }
 
 /// Returns cells of rows. The time of each is the number of its row; it has a step of 1 and one input.

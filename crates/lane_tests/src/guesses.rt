@@ -63,15 +63,21 @@ fn guessed_by(alloc: Global, policy: Policy, numbers: &[u32]) -> Result<Vec<Cell
     }
 }
 
-/// Guesses a line, and prints its cells: for each the row, the time, the step and the inputs.
-fn guess(rt: &HostRuntime, call: &str) -> Result<(), Fail> {
-    let words = words_of(rt.alloc(), call)?;
-    let [policy, given @ ..] = words.as_slice() else {
-        return Ok(());
+/// Returns the line that is guessed by a policy and numbers in words.
+fn guessed_in(alloc: Global, words: &[&str]) -> Result<Vec<Cell>, Fail> {
+    let [policy, given @ ..] = words else {
+        return Ok(Vec::new(alloc));
     };
-    let numbers = numbers_of(rt.alloc(), given)?;
+    let numbers = numbers_of(alloc, given)?;
+    let line = guessed_by(alloc, policy_of(policy), &numbers);
+    drop(numbers);
+    line
+}
+
+/// Prints the cells of a line: for each the row, the time, the step and the inputs.
+fn print_line(rt: &HostRuntime, call: &str, line: &[Cell]) -> Result<(), Fail> {
     print!(rt; "{call}:")?;
-    for cell in &guessed_by(rt.alloc(), policy_of(policy), &numbers)? {
+    for cell in line {
         print!(rt;
             " {} {} {} {:?}",
             cell.row,
@@ -82,6 +88,17 @@ fn guess(rt: &HostRuntime, call: &str) -> Result<(), Fail> {
     }
     println!(rt; "")?;
     Ok(())
+}
+
+/// Guesses a line, and prints it.
+fn guess(rt: &HostRuntime, call: &str) -> Result<(), Fail> {
+    let words = words_of(rt.alloc(), call)?;
+    let line = guessed_in(rt.alloc(), &words);
+    drop(words);
+    let line = line?;
+    let printed = print_line(rt, call, &line);
+    drop(line);
+    printed
 }
 
 /// Guesses a line by each call: a policy, the window, the time, the step and the factor.

@@ -2,7 +2,8 @@
 use crate::answering::{answer_to, want_of};
 use crate::fronts::{line, publish};
 use crate::script::{numbers_of, words_of};
-use guess_board::{Lane, Ticket};
+use fixed_words::NoMemory;
+use guess_board::{Cell, Lane, Ticket};
 use std::alloc::{AllocError, Global};
 use std::sync::Arc;
 use std::test::Fail;
@@ -33,38 +34,63 @@ impl Desk {
     }
 
     /// Adds a ticket after the others.
-    fn keep(&mut self, ticket: Ticket) -> Result<(), Fail> {
-        self.tickets.push(ticket).map_err(AllocError::from)?;
-        Ok(())
+    fn keep(&mut self, ticket: Ticket) -> Result<(), NoMemory> {
+        self.tickets.push(ticket).map_err(AllocError::from)
     }
 }
 
 /// Returns the state after an answer; after a fault, the one from which it was made.
-fn state_after(alloc: Global, one: &Proven) -> Result<Vec<i64>, Fail> {
+fn state_after(alloc: Global, one: &Proven) -> Result<Vec<i64>, NoMemory> {
     match one.answer() {
         Answer::Moved { state, .. } => Ok(Vec::from_slice(alloc, state.as_slice())?),
         Answer::Failed { .. } => Ok(Vec::from_slice(alloc, one.key().state.as_slice())?),
     }
 }
 
-/// Returns the answers to the cells of a ticket, each from the state after the one before.
-fn answers(alloc: Global, image: &Arc<Image>, ticket: &Ticket) -> Result<Vec<Proven>, Fail> {
-    let mut answers = Vec::new(alloc);
+/// Appends the answer to a cell from a state, and returns the state after it.
+fn put_answer(
+    alloc: Global,
+    image: &Arc<Image>,
+    state: &[i64],
+    cell: &Cell,
+    answers: &mut Vec<Proven>,
+) -> Result<Vec<i64>, Fail> {
+    let want = Want {
+        row: cell.row,
+        image,
+        state,
+        inputs: cell.inputs.as_slice(),
+        time: cell.time,
+        step: cell.step,
+    };
+    let one = answer_to(alloc, want)?;
+    let after = state_after(alloc, &one);
+    answers.push(one)?;
+    Ok(after?)
+}
+
+/// Appends the answers to the cells of a ticket, each from the state after the one before.
+fn put_answers(
+    alloc: Global,
+    image: &Arc<Image>,
+    ticket: &Ticket,
+    answers: &mut Vec<Proven>,
+) -> Result<(), Fail> {
     let mut state = Vec::from_slice(alloc, ticket.start())?;
     for cell in ticket.cells() {
-        let want = Want {
-            row: cell.row,
-            image,
-            state: &state,
-            inputs: cell.inputs.as_slice(),
-            time: cell.time,
-            step: cell.step,
-        };
-        let one = answer_to(alloc, want)?;
-        state = state_after(alloc, &one)?;
-        answers.push(one)?;
+        state = put_answer(alloc, image, &state, cell, answers)?;
     }
-    Ok(answers)
+    Ok(())
+}
+
+/// Prints the rows of the cells of a ticket.
+fn print_rows(rt: &HostRuntime, ticket: &Ticket) -> Result<(), Fail> {
+    print!(rt; " rows")?;
+    for cell in ticket.cells() {
+        print!(rt; " {}", cell.row)?;
+    }
+    println!(rt; "")?;
+    Ok(())
 }
 
 /// Takes a ticket, and prints the rows of its cells.
@@ -73,44 +99,47 @@ fn take(rt: &HostRuntime, desk: &mut Desk, number: u32) -> Result<(), Fail> {
         println!(rt; " no ticket")?;
         return Ok(());
     };
-    print!(rt; " rows")?;
-    for cell in ticket.cells() {
-        print!(rt; " {}", cell.row)?;
-    }
-    println!(rt; "")?;
-    desk.keep(ticket)
+    let printed = print_rows(rt, &ticket);
+    let kept = desk.keep(ticket);
+    printed?;
+    Ok(kept?)
+}
+
+/// Adds a ticket that a lane returned, and prints that it is not of this lane.
+fn keep_back(rt: &HostRuntime, desk: &mut Desk, back: Ticket) -> Result<(), Fail> {
+    let kept = desk.keep(back);
+    println!(rt; " not of this lane")?;
+    Ok(kept?)
 }
 
 /// Posts the answers to all cells of a ticket, and prints how many were appended.
 fn post(rt: &HostRuntime, desk: &mut Desk, number: u32, place: u32) -> Result<(), Fail> {
     let ticket = desk.ticket(place)?;
     let lane = desk.lane(number);
-    let answers = answers(rt.alloc(), lane.image(), &ticket)?;
-    match lane.post(ticket, answers) {
-        Ok(appended) => {
-            println!(rt; " appended {appended}")?;
-            Ok(())
-        }
-        Err(back) => {
-            println!(rt; " not of this lane")?;
-            desk.keep(back)
+    let mut answers = Vec::new(rt.alloc());
+    let put = put_answers(rt.alloc(), lane.image(), &ticket, &mut answers);
+    match put {
+        Ok(()) => match lane.post(ticket, answers) {
+            Ok(appended) => println!(rt; " appended {appended}")?,
+            Err(back) => keep_back(rt, desk, back)?,
+        },
+        Err(error) => {
+            drop(ticket);
+            drop(answers);
+            Err(error)?
         }
     }
+    Ok(())
 }
 
 /// Gives a ticket back.
 fn give_back(rt: &HostRuntime, desk: &mut Desk, number: u32, place: u32) -> Result<(), Fail> {
     let ticket = desk.ticket(place)?;
     match desk.lane(number).back(ticket) {
-        Ok(()) => {
-            println!(rt; " back")?;
-            Ok(())
-        }
-        Err(back) => {
-            println!(rt; " not of this lane")?;
-            desk.keep(back)
-        }
+        Ok(()) => println!(rt; " back")?,
+        Err(back) => keep_back(rt, desk, back)?,
     }
+    Ok(())
 }
 
 /// Returns whether the first answer of a lane is that of a step of 1.
@@ -154,33 +183,59 @@ fn ask(rt: &HostRuntime, desk: &mut Desk, name: &str, numbers: &[u32]) -> Result
     Ok(())
 }
 
-/// Makes each call: its name, the number of a lane, and further numbers.
+/// Makes a call with these words: its name, the number of a lane, and further numbers.
+fn make_call(rt: &HostRuntime, desk: &mut Desk, words: &[&str]) -> Result<(), Fail> {
+    let [name, given @ ..] = words else {
+        return Ok(());
+    };
+    let numbers = numbers_of(rt.alloc(), given)?;
+    let made = ask(rt, desk, name, &numbers);
+    drop(numbers);
+    made
+}
+
+/// Prints and makes each call.
 fn make_each(rt: &HostRuntime, desk: &mut Desk, calls: &str) -> Result<(), Fail> {
     for call in calls.lines() {
+        print!(rt; "{call}:")?;
         let words = words_of(rt.alloc(), call)?;
-        if let [name, given @ ..] = words.as_slice() {
-            let numbers = numbers_of(rt.alloc(), given)?;
-            print!(rt; "{call}:")?;
-            ask(rt, desk, name, &numbers)?;
-        }
+        let made = make_call(rt, desk, &words);
+        drop(words);
+        made?;
     }
     Ok(())
+}
+
+/// Returns the image of the first component of a run.
+fn first_image(run: &Run) -> Result<Arc<Image>, Fail> {
+    Ok(Arc::clone(want_of(run, 0)?.image)?)
 }
 
 /// Returns the image of the first component of a plan.
 fn image_of(alloc: Global, plan: Arc<Plan>) -> Result<Arc<Image>, Fail> {
     let run = Run::open(alloc, plan)?;
-    Ok(Arc::clone(want_of(&run, 0)?.image)?)
+    let image = first_image(&run);
+    drop(run);
+    image
+}
+
+/// Returns two lanes with an image, as those of the instances 0 and 1.
+fn lanes_of(alloc: Global, image: Arc<Image>) -> Result<[Lane; 2], NoMemory> {
+    let first = Lane::open(alloc, Arc::clone(&image)?, 0)?;
+    match Lane::open(alloc, image, 1) {
+        Ok(second) => Ok([first, second]),
+        Err(error) => {
+            drop(first);
+            Err(error)
+        }
+    }
 }
 
 /// Makes calls of two lanes of the first component of a plan.
 pub(crate) fn make_calls(rt: &HostRuntime, plan: Arc<Plan>, calls: &str) -> Result<(), Fail> {
     let image = image_of(rt.alloc(), plan)?;
     let mut desk = Desk {
-        lanes: [
-            Lane::open(rt.alloc(), Arc::clone(&image)?, 0)?,
-            Lane::open(rt.alloc(), image, 1)?,
-        ],
+        lanes: lanes_of(rt.alloc(), image)?,
         tickets: Vec::new(rt.alloc()),
     };
     let made = make_each(rt, &mut desk, calls);

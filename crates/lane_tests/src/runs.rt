@@ -77,6 +77,17 @@ fn last_of(answers: &[Proven]) -> Result<&Proven, Fail> {
     }
 }
 
+/// Prints an answer, with its row and its time.
+fn print_answer(rt: &HostRuntime, made: &Proven) -> Result<(), Fail> {
+    println!(rt;
+        "row {}, time {}: {:?}",
+        made.row(),
+        made.key().time,
+        made.answer()
+    )?;
+    Ok(())
+}
+
 /// Makes the answer to a step, which becomes the last one.
 fn answer(
     rt: &HostRuntime,
@@ -85,17 +96,13 @@ fn answer(
     instance: &str,
     change: &[&str],
 ) -> Result<(), Fail> {
+    let number = instance.parse::<u32>()?;
     let change = change_of(rt.alloc(), change)?;
-    let want = changed(run, instance.parse::<u32>()?, &change)?;
-    let made = answer_to(rt.alloc(), want)?;
-    println!(rt;
-        "row {}, time {}: {:?}",
-        made.row(),
-        made.key().time,
-        made.answer()
-    )?;
-    answers.push(made).map_err(AllocError::from)?;
-    Ok(())
+    let made = answer_to(rt.alloc(), changed(run, number, &change)?)?;
+    let printed = print_answer(rt, &made);
+    let kept = answers.push(made).map_err(AllocError::from);
+    printed?;
+    Ok(kept?)
 }
 
 /// Returns whether the last answer is that of a step.
@@ -106,21 +113,19 @@ fn is_same(
     instance: &str,
     change: &[&str],
 ) -> Result<bool, Fail> {
+    let (number, last) = (instance.parse::<u32>()?, last_of(answers)?);
     let change = change_of(rt.alloc(), change)?;
-    let want = changed(run, instance.parse::<u32>()?, &change)?;
-    Ok(same_key(last_of(answers)?, want))
+    Ok(same_key(last, changed(run, number, &change)?))
 }
 
-/// Makes a call of a run, with its answers.
+/// Makes a call of a run with these words, with its answers.
 fn make_call(
     rt: &HostRuntime,
     run: &mut Run,
     answers: &mut Vec<Proven>,
-    call: &str,
+    words: &[&str],
 ) -> Result<(), Fail> {
-    print!(rt; "{call}: ")?;
-    let words = words_of(rt.alloc(), call)?;
-    match words.as_slice() {
+    match words {
         ["answer", instance, change @ ..] => answer(rt, run, answers, instance, change)?,
         ["same", instance, change @ ..] => {
             let same = is_same(rt, run, answers, instance, change)?;
@@ -146,10 +151,19 @@ fn make_call(
     Ok(())
 }
 
-fn make_each(rt: &HostRuntime, run: &mut Run, calls: &str) -> Result<(), Fail> {
-    let mut answers = Vec::new(rt.alloc());
+/// Prints and makes each call.
+fn make_each(
+    rt: &HostRuntime,
+    run: &mut Run,
+    answers: &mut Vec<Proven>,
+    calls: &str,
+) -> Result<(), Fail> {
     for call in calls.lines() {
-        make_call(rt, run, &mut answers, call)?;
+        print!(rt; "{call}: ")?;
+        let words = words_of(rt.alloc(), call)?;
+        let made = make_call(rt, run, answers, &words);
+        drop(words);
+        made?;
     }
     Ok(())
 }
@@ -157,7 +171,9 @@ fn make_each(rt: &HostRuntime, run: &mut Run, calls: &str) -> Result<(), Fail> {
 /// Makes calls of the run of a plan.
 pub(crate) fn make_calls(rt: &HostRuntime, plan: Arc<Plan>, calls: &str) -> Result<(), Fail> {
     let mut run = Run::open(rt.alloc(), plan)?;
-    let made = make_each(rt, &mut run, calls);
+    let mut answers = Vec::new(rt.alloc());
+    let made = make_each(rt, &mut run, &mut answers, calls);
+    drop(answers);
     drop(run);
     made
 }

@@ -61,14 +61,25 @@ fn ask(rt: &HostRuntime, world: &mut World, call: &str) -> Result<(), Fail> {
     Ok(())
 }
 
-/// Makes a call of a world.
-fn make_call(rt: &HostRuntime, world: &mut World, call: &str) -> Result<(), Fail> {
-    let words = words_of(rt.alloc(), call)?;
-    let [name, given @ ..] = words.as_slice() else {
-        return Ok(());
+/// Returns the event of these words, if there is one.
+fn event_in(alloc: Global, words: &[&str]) -> Result<Option<Event>, Fail> {
+    let [name, given @ ..] = words else {
+        return Ok(None);
     };
-    let numbers = numbers_of(rt.alloc(), given)?;
-    match event_of(name, &numbers) {
+    let numbers = numbers_of(alloc, given)?;
+    let event = event_of(name, &numbers);
+    drop(numbers);
+    Ok(event)
+}
+
+/// Makes a call of a world, which is an event or not.
+fn make_call(
+    rt: &HostRuntime,
+    world: &mut World,
+    event: Option<Event>,
+    call: &str,
+) -> Result<(), Fail> {
+    match event {
         Some(event) => {
             let reply = world.apply(rt.alloc(), &event)?;
             println!(rt; "{call}: {reply:?}")?;
@@ -80,7 +91,10 @@ fn make_call(rt: &HostRuntime, world: &mut World, call: &str) -> Result<(), Fail
 
 fn make_each(rt: &HostRuntime, world: &mut World, calls: &str) -> Result<(), Fail> {
     for call in calls.lines() {
-        make_call(rt, world, call)?;
+        let words = words_of(rt.alloc(), call)?;
+        let event = event_in(rt.alloc(), &words);
+        drop(words);
+        make_call(rt, world, event?, call)?;
     }
     Ok(())
 }
