@@ -16,6 +16,11 @@ const RISING: &[u8] =
 const ROWS: &[u8] =
     b"time,index,a.y,b.y\n0,0,0,0\n1,0,1,1\n2,0,2,2\n3,0,3,3\n4,0,4,4\n5,0,5,5\n6,0,6,6\n7,0,7,7\n8,0,8,8\n9,0,9,9\n10,0,10,10\n11,0,11,11\n12,0,12,12\n13,0,13,13\n14,0,14,14\n15,0,15,15\n16,0,16,16\n17,0,17,17\n18,0,18,18\n19,0,19,19\n20,0,20,20\n";
 
+const RUN: &[&str] = &["run", "--workers", "1"];
+
+/// The text of a command that reads none.
+const NOTHING: &[u8] = b"";
+
 /// A system whose figures are those of `tests/generated.txt`.
 const BENCH: &[&str] = &["bench", "--seed", "0", "--instances", "2", "--rows", "3"];
 
@@ -176,13 +181,24 @@ fn answers_are_taken_of_as_many_rows_as_are_guessed_right(rt: HostRuntime) -> Re
     Ok(())
 }
 
+/// With a window of one row each answer is found, so no ticket lapses, unless the run waited in vain for one.
+#[test]
+fn no_ticket_lapses_where_each_answer_is_found(rt: HostRuntime) -> Result<(), Fail> {
+    let words = ["run", "--workers", "1", "--window", "1", "--report"];
+    let gate = Waits::new();
+    let [_, _, _, _, _, _, lapsed] = counts_of(rt, rt.alloc(), &words, RISING, ROWS, &gate)?;
+    let in_vain = gate.in_vain.get();
+    assert!(rt; in_vain || lapsed == 0);
+    Ok(())
+}
+
 /// Returns whether `bench` called a gate, and each wait had success.
 fn bench_waits<R: Threads + Wait + Copy + Send + Drop + 'static>(
     rt: R,
     alloc: Global,
 ) -> Result<bool, Fail> {
     let gate = Waits::new();
-    let counts = counts_of(rt, alloc, BENCH, b"", FIGURES, &gate);
+    let counts = counts_of(rt, alloc, BENCH, NOTHING, FIGURES, &gate);
     let (asked, in_vain) = (gate.asked.get(), gate.in_vain.get());
     counts?;
     if in_vain {
@@ -202,11 +218,12 @@ fn bench_has_workers(rt: HostRuntime) -> Result<(), Fail> {
     Err("the gate was never asked")?
 }
 
-/// Returns whether the call without a gate has status 0 and the figures.
+/// Returns whether the call without a gate has status 0, this output and no notes.
 fn ends_without_a_gate<R: Threads + Wait + Copy + Send + Drop + 'static>(
     rt: R,
     alloc: Global,
     streams: &mut Streams,
+    output: &[u8],
 ) -> bool {
     let Streams {
         words,
@@ -214,14 +231,17 @@ fn ends_without_a_gate<R: Threads + Wait + Copy + Send + Drop + 'static>(
         out,
         notes,
     } = streams;
-    cosim(rt, alloc, words, source, out, notes) == Status::Done && out.bytes() == FIGURES
+    let status = cosim(rt, alloc, words, source, out, notes);
+    status == Status::Done && out.bytes() == output && notes.bytes().is_empty()
 }
 
 #[test]
-fn a_call_without_a_gate_prints_the_figures(rt: HostRuntime) -> Result<(), Fail> {
-    let mut streams = streams_of(rt.alloc(), BENCH, b"")?;
-    let ends = ends_without_a_gate(rt, rt.alloc(), &mut streams);
-    drop(streams);
-    assert!(rt; ends);
+fn a_call_without_a_gate_prints_the_same(rt: HostRuntime) -> Result<(), Fail> {
+    for (words, text, output) in [(RUN, RISING, ROWS), (BENCH, NOTHING, FIGURES)] {
+        let mut streams = streams_of(rt.alloc(), words, text)?;
+        let ends = ends_without_a_gate(rt, rt.alloc(), &mut streams, output);
+        drop(streams);
+        assert!(rt; ends, "{words:?}");
+    }
     Ok(())
 }
