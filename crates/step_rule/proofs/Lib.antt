@@ -1,1 +1,4 @@
+pub mod AlongLaws
 pub mod LeastLaws
+pub mod MemberLaws
+pub mod StepLaws

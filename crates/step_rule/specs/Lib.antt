@@ -1,1 +1,2 @@
 pub mod AfterStep
+pub mod Steps

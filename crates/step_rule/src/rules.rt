@@ -2,6 +2,7 @@ ghost use Rattle.std.specs.Prelude.{◌≡◌, ◌≤◌, ◌<◌, ◌+◌, ◌^
 ghost use Rattle.step_rule.specs.AfterStep.{after_step};
 ghost use Rattle.super_time.specs.LocalTime.{local_step};
 ghost use Rattle.unit_tree.specs.Negotiation.{agreed_step, is_held, proposal_of, reply_of};
+ghost use Rattle.unit_tree.specs.Successor.{point_after};
 ghost use Rattle.model_rules.specs.Limits.{zero_limit};
 
 use super_time::{Point, limit, local_step};
@@ -77,6 +78,25 @@ pub fn agree(replies: &[u64]) -> u64
     least
 }
 
+/// Returns the point after a step of `h`.
+pub fn next_point(point: Point, h: u64) -> Point
+    requires end { point.t + h ≤ 10 ^ 15 }
+    requires zeros { point.n ≤ zero_limit }
+    ensures { result ≡ point_after point h }
+{
+    if h == 0 {
+        Point {
+            t: point.t,
+            n: point.n + 1,
+        }
+    } else {
+        Point {
+            t: point.t + h,
+            n: 0,
+        }
+    }
+}
+
 /// Returns the point after a step of `h`, or that it is one zero step too many. `zero` is the zero budget.
 pub fn after(point: Point, h: u64, zero: u64) -> NextPoint
     requires end { point.t + h ≤ 10 ^ 15 }
@@ -84,17 +104,9 @@ pub fn after(point: Point, h: u64, zero: u64) -> NextPoint
     requires budget { zero ≤ zero_limit }
     ensures { result ≡ after_step zero point h }
 {
-    if h > 0 {
-        return NextPoint::Next(Point {
-            t: point.t + h,
-            n: 0,
-        });
+    if h == 0 && point.n == zero {
+        NextPoint::ZeroBudget
+    } else {
+        NextPoint::Next(next_point(point, h))
     }
-    if point.n == zero {
-        return NextPoint::ZeroBudget;
-    }
-    NextPoint::Next(Point {
-        t: point.t,
-        n: point.n + 1,
-    })
 }
