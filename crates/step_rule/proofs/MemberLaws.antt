@@ -1,6 +1,6 @@
 -- The steps of members, by their results, lead where the negotiation of a system's components leads.
-use Rattle.std.proofs.Common.{◌≡◌, ℕ, ◌+◌, ◌≤◌, ◌^◌, List, [], ◌∷◌, length, map, zip, Option, Some, None, Result, Ok, Err, refl, ap, ap₂, arith}
-use Rattle.std.specs.List.{AllByRecursion, enumerate_from}
+use Rattle.std.proofs.Common.{◌≡◌, ℕ, ◌+◌, List, [], ◌∷◌, length, map, zip, Option, Some, None, Result, Ok, Err, refl, ap, ap₂, arith}
+use Rattle.std.specs.List.{enumerate_from}
 use Rattle.fixed_words.specs.declared.types.Fault.{Fault}
 use Rattle.step_rule.specs.Steps.{AreAsked, or_least, redo_end_by, redo_of, reply_by, step_of, steps_of, trial_end_by, trial_of}
 use Rattle.unit_tree.specs.Components.{Moved}
@@ -61,10 +61,6 @@ module _ (t h : ℕ) where
   redo_by_results members results = ap first_some (redo_ends_are 0 (zip members results))
 
   -- A member is asked for its local step.
-  pub are_asked : (members : List Member) (results : List (Option (Result Moved Fault)))
-      → AllByRecursion (λ (member : Member). (1 ≤ member.factor) × (member.factor ≤ 10 ^ 9)) members
-      → AreAsked t h (steps_of t h members results)
-  are_asked [] results all = tt
-  are_asked (member ∷ members) [] all = tt
-  are_asked (member ∷ members) (result ∷ results) all =
-      (record { least = all.0.0; most = all.0.1; length_is = refl }, are_asked members results all.1)
+  pub are_asked : (pairs : List (Member × Option (Result Moved Fault))) → AreAsked t h (map (step_of t h) pairs)
+  are_asked [] = tt
+  are_asked (pair ∷ pairs) = (refl, are_asked pairs)

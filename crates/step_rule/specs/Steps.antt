@@ -1,6 +1,6 @@
 -- What follows from the steps of all components in a phase. An empty slot has no result yet: it neither ends the run nor shortens the
 -- step.
-use Rattle.std.specs.Prelude.{ℕ, ◌≤◌, ◌^◌, nat_lt, Bool, true, false, List, map, zip, Option, Some, None, Result, Ok, Err, ◌≡◌}
+use Rattle.std.specs.Prelude.{ℕ, nat_lt, Bool, true, false, List, map, zip, Option, Some, None, Result, Ok, Err, ◌≡◌}
 use Rattle.std.specs.List.{AllByRecursion}
 use Rattle.fixed_words.specs.declared.types.Fault.{Fault}
 use Rattle.super_time.specs.LocalTime.{local_step}
@@ -65,11 +65,9 @@ redo_of steps = first_told redo_end_by steps
 
 -- ---- What is asked
 
--- The component is asked to make the local step of a step of h from t. A local tick is one to 10^9 ticks.
-pub record IsAsked (t h : ℕ) (step : Step) : Type 0 where
-  pub least : 1 ≤ step.factor
-  pub most : step.factor ≤ 10 ^ 9
-  pub length_is : step.asked ≡ local_step step.factor t h
+-- The component is asked to make the local step of a step of h from t.
+abbrev pub IsAsked : ℕ → ℕ → Step → Type 0
+IsAsked t h step = step.asked ≡ local_step step.factor t h
 
 abbrev pub AreAsked : ℕ → ℕ → List Step → Type 0
 AreAsked t h steps = AllByRecursion (IsAsked t h) steps

@@ -34,7 +34,7 @@ pub struct Step {
 
 /// The steps of all components of a system in a phase, by the numbers of the components from 0.
 pub trait Steps {
-    ghost use Rattle.std.specs.Prelude.{◌≡◌, ◌<◌, List, length, slice_get, Some};
+    ghost use Rattle.std.specs.Prelude.{◌≡◌, ◌<◌, ◌≤◌, ◌^◌, List, length, slice_get, Some};
     ghost use Rattle.step_rule.specs.declared.steps.Step.{Step};
 
     /// The steps, in the order of the components.
@@ -46,8 +46,10 @@ pub trait Steps {
 
     /// Returns the step of a component.
     fn step(&self, instance: usize) -> Step
-        requires { instance < length (steps self.now) }
-        ensures { slice_get (steps self.now) instance ≡ Some result };
+        requires there { instance < length (steps self.now) }
+        ensures step { slice_get (steps self.now) instance ≡ Some result }
+        ensures least { 1 ≤ result.factor }
+        ensures coarsest { result.factor ≤ 10 ^ 9 };
 }
 
 /// Returns whether the result of a step is known, or the component is held.
@@ -85,6 +87,8 @@ fn trial_end(instance: u32, step: Step) -> Option<Ending>
 
 /// Returns the reply of a component to a step of `h` from `t`, or `least` where that is less.
 fn least_with(least: u64, step: Step, t: u64, h: u64) -> u64
+    requires least { 1 ≤ step.factor }
+    requires coarsest { step.factor ≤ 10 ^ 9 }
     requires asked { IsAsked t h step }
     requires at_most { least ≤ h }
     requires end { t + h ≤ 10 ^ 15 }

@@ -7,10 +7,10 @@ pub returns-then-not-is_made : goal.returns-then-not-is_made
 returns-then-not-is_made g c =
     let steps = g.S.Steps.steps c.args.steps.now in
     let fails : is_made c.step.result ≡ false = cc (c.is_made.ensures, c.if-not-is_made.true) in
-    all_fails is_made steps c.loop-instance.instance c.step.result c.step.ensures fails c.loop-instance.invariant
+    all_fails is_made steps c.loop-instance.instance c.step.result c.step.ensures.step fails c.loop-instance.invariant
 
 pub loop-instance-preserved : goal.loop-instance-preserved
 loop-instance-preserved g c =
     let steps = g.S.Steps.steps c.args.steps.now in
     let holds : is_made c.step.result ≡ true = cc (c.is_made.ensures, c.if-not-is_made.false) in
-    all_next is_made steps c.loop-instance.instance c.step.result c.step.ensures holds c.loop-instance.invariant
+    all_next is_made steps c.loop-instance.instance c.step.result c.step.ensures.step holds c.loop-instance.invariant

@@ -7,13 +7,13 @@ pub returns-then-is_some : goal.returns-then-is_some
 returns-then-is_some g c =
     let steps = g.S.Steps.steps c.args.steps.now in
     let some : is_some (redo_end_by (c.loop-instance.instance, c.step.result)) ≡ true = cc (c.redo_end-end.ensures, c.is_some.ensures, c.if-is_some.true) in
-    c.redo_end-end.ensures ∙ end_here redo_end_by steps c.loop-instance.instance c.step.result c.step.ensures some c.loop-instance.invariant
+    c.redo_end-end.ensures ∙ end_here redo_end_by steps c.loop-instance.instance c.step.result c.step.ensures.step some c.loop-instance.invariant
 
 pub loop-instance-preserved : goal.loop-instance-preserved
 loop-instance-preserved g c =
     let steps = g.S.Steps.steps c.args.steps.now in
     let none : is_some (redo_end_by (c.loop-instance.instance, c.step.result)) ≡ false = cc (c.redo_end-end.ensures, c.is_some.ensures, c.if-is_some.false) in
-    end_next redo_end_by steps c.loop-instance.instance c.step.result c.step.ensures none c.loop-instance.invariant
+    end_next redo_end_by steps c.loop-instance.instance c.step.result c.step.ensures.step none c.loop-instance.invariant
 
 pub returns : goal.returns
 returns g c =

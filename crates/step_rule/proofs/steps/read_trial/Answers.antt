@@ -6,12 +6,14 @@ use Rattle.step_rule.proofs.steps.read_trial.Goals as goal
 pub returns-in-Some : goal.returns-in-Some
 returns-in-Some g c =
     let steps = g.S.Steps.steps c.args.steps.now in
-    fault_here c.args.t c.args.h steps c.loop-instance.instance c.loop-instance.least c.step-step.result c.in-Some.ending c.step-step.ensures
+    fault_here c.args.t c.args.h steps c.loop-instance.instance c.loop-instance.least c.step-step.result c.in-Some.ending c.step-step.ensures.step
     (cc (c.trial_end.ensures, c.in-Some.is)) c.loop-instance.invariant
 
 pub least_with-least-requires : goal.least_with-least-requires
 least_with-least-requires g c = record {
-  asked = asked_at c.args.t c.args.h (g.S.Steps.steps c.args.steps.now) c.loop-instance.instance c.step-step.result c.requires.asked c.step-step.ensures;
+  least = c.step-step.ensures.least;
+  coarsest = c.step-step.ensures.coarsest;
+  asked = asked_at c.args.t c.args.h (g.S.Steps.steps c.args.steps.now) c.loop-instance.instance c.step-step.result c.requires.asked c.step-step.ensures.step;
   at_most = c.loop-instance.invariant.at_most;
   end = c.requires.end;
 }
@@ -21,7 +23,7 @@ loop-instance-preserved g c =
     let steps = g.S.Steps.steps c.args.steps.now in
     let none : is_some (trial_end_by (c.loop-instance.instance, c.step-step.result)) ≡ false = ap is_some (sym c.trial_end.ensures ∙ c.in_default.is) in
     subst (ReadSoFar c.args.t c.args.h steps (c.loop-instance.instance + 1)) (sym c.least_with-least.ensures)
-    (read_next c.args.t c.args.h steps c.loop-instance.instance c.loop-instance.least c.step-step.result c.step-step.ensures none c.loop-instance.invariant)
+    (read_next c.args.t c.args.h steps c.loop-instance.instance c.loop-instance.least c.step-step.result c.step-step.ensures.step none c.loop-instance.invariant)
 
 pub returns : goal.returns
 returns g c =
