@@ -15,8 +15,8 @@ use Rattle.step_log.proofs.StepsMade.{StepHere, TellsStep}
 use Rattle.step_rule.proofs.LeastLaws.{least_next}
 use Rattle.trace_core.proofs.LoopLaws.{ToldFrom, told_all, told_none, told_some}
 use Rattle.trace_core.specs.Runs.{RunState, Stands}
-use Rattle.trace_core.specs.declared.seat.Slot.{Slot}
-use Rattle.trace_core.specs.declared.seat.Slot.TheVariants as slot
+use Rattle.step_rule.specs.declared.steps.Slot.{Slot}
+use Rattle.step_rule.specs.declared.steps.Slot.TheVariants as slot
 use Rattle.unit_tree.specs.Components.{Moved}
 use Rattle.unit_tree.specs.Compositions.{Composition, Member}
 use Rattle.unit_tree.specs.Negotiation.{agreed_step, least_of, reply_of, step_at}

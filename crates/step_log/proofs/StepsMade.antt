@@ -12,8 +12,8 @@ use Rattle.super_time.specs.LocalTime.{local_step, local_time}
 use Rattle.trace_core.specs.Runs.{Cell, Held, Empty, Filled, RunState, Stands, AreCellsFull, FitCells, IsPhase, is_empty_cell, is_ended, is_held_cell, step_length}
 use Rattle.trace_core.specs.Slots.{slot_seen}
 use Rattle.trace_core.specs.declared.phase.Phase.TheVariants.{Trial}
-use Rattle.trace_core.specs.declared.seat.Slot.{Slot}
-use Rattle.trace_core.specs.declared.seat.Slot.TheVariants as slot
+use Rattle.step_rule.specs.declared.steps.Slot.{Slot}
+use Rattle.step_rule.specs.declared.steps.Slot.TheVariants as slot
 use Rattle.trace_rows.proofs.Filling.{one_for_each}
 use Rattle.unit_tree.specs.Components.{Moved, step_of}
 use Rattle.unit_tree.specs.Compositions.{Composition, IsMember, Member}

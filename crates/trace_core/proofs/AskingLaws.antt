@@ -1,5 +1,5 @@
 -- What a run says of an instance between two settlings: its slot, and its limit.
-use Rattle.std.proofs.Common.{◌≡◌, ◌∙◌, ℕ, ◌<◌, ◌≤◌, ◌+◌, ◌^◌, ℤ, false, List, [], length, map, get_or, Option, Some, None, Result}
+use Rattle.std.proofs.Common.{◌≡◌, ◌∙◌, ℕ, ◌<◌, ◌≤◌, ◌+◌, ◌^◌, ℤ, false, List, [], length, get_or, Option, Some, None, Result}
 use Rattle.std.proofs.Common.{refl, ap, sym, subst, arith}
 use Rattle.std.proofs.lemmas.Option.{same_Some, slice_get-map, slice_get_within}
 use Rattle.std.specs.Prelude.{slice_get}
@@ -9,15 +9,15 @@ use Rattle.list_laws.proofs.Pairs.{zip_there}
 use Rattle.super_time.proofs.LimitLaws.{local_end}
 use Rattle.super_time.specs.LocalTime.{local_time}
 use Rattle.trace_core.specs.Keeping.{cells_seen, run_state, stand_of, IsRun}
-use Rattle.trace_core.specs.Runs.{Cell, Held, Empty, is_ended, is_filled, step_length}
+use Rattle.trace_core.specs.Runs.{Cell, is_ended, is_filled, step_length}
 use Rattle.trace_core.specs.Seats.{SlotIs, cell_in}
 use Rattle.trace_core.specs.Slots.{slot_seen}
 use Rattle.trace_core.specs.declared.phase.Phase.{Phase}
 use Rattle.trace_core.specs.declared.phase.Phase.TheVariants.{Trial, Redo, Ended}
 use Rattle.trace_core.specs.declared.run.Run.TheInside.{Inside}
 use Rattle.trace_core.specs.declared.seat.Seat.{Seat}
-use Rattle.trace_core.specs.declared.seat.Slot.{Slot}
-use Rattle.trace_core.specs.declared.seat.Slot.TheVariants as slot
+use Rattle.step_rule.specs.declared.steps.Slot.{Slot}
+use Rattle.step_rule.specs.declared.steps.Slot.TheVariants as slot
 use Rattle.trace_core.proofs.FillLaws.{SeatAt, seat_at}
 use Rattle.trace_core.proofs.KeepLaws.{fit_as}
 use Rattle.trace_core.proofs.SeatLaws.{cell_there, cells_long}

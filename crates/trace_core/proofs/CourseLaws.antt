@@ -1,16 +1,17 @@
 -- Where a run goes from a phase whose cells are full is where the successor leads from its stand.
-use Rattle.std.proofs.Common.{◌≡◌, ◌∙◌, ℕ, suc, ◌+◌, ◌==◌, ◌≤◌, ◌&&◌, Bool, true, false, ℤ, List, map, zip, Option, Some, None, refl, sym, ap, subst, arith}
+use Rattle.std.proofs.Common.{◌≡◌, ◌∙◌, ℕ, suc, ◌+◌, ◌==◌, ◌≤◌, ◌&&◌, Bool, true, false, ℤ, List, [], ◌∷◌, map, zip, Option, Some, None, refl, sym, ap, subst, arith}
 use Rattle.std.proofs.lemmas.Bool.Decides.{nat_tests}
 use Rattle.std.specs.Prelude.{nat_lt, if◌then◌else◌}
 use Rattle.super_time.specs.declared.point.Point.{Point}
-use Rattle.trace_core.specs.Courses.{course_on, end_or, least_reply, course_of_trial, course_of_redo}
-use Rattle.trace_core.specs.Seats.{AreSeats, AreFull, slot_end, redo_slot_end}
+use Rattle.step_rule.specs.Steps.{or_least, redo_of, trial_of}
+use Rattle.trace_core.specs.Courses.{course_by, course_on, end_or, course_of_trial, course_of_redo}
+use Rattle.trace_core.specs.Seats.{AreSeats, AreFull, seat_steps}
 use Rattle.trace_core.specs.declared.course.Course.{Course}
 use Rattle.trace_core.specs.declared.course.Course.TheVariants.{Redo, On, End}
 use Rattle.trace_core.specs.declared.seat.Seat.{Seat}
-use Rattle.trace_core.proofs.SlotLaws.{AreOfOneLength, trial_told, redo_told_by, replies_told, units_hold}
+use Rattle.trace_core.proofs.SlotLaws.{AreOfOneLength, redo_read, trial_read, units_hold}
 use Rattle.unit_tree.specs.Compositions.{Composition, AreMembers}
-use Rattle.unit_tree.specs.Negotiation.{agreed_step, state_after}
+use Rattle.unit_tree.specs.Negotiation.{agreed_step, least_of, state_after}
 use Rattle.unit_tree.specs.Successor.{Position, when, first_told, step_end_of, standings, steps_by, replies_to, trial_end, redo_end_by, redo_end, zero_end}
 use Rattle.unit_tree.specs.Successor.{proposed, agreed, is_redone, point_after, after, goes, ends, successor}
 use Rattle.unit_tree.specs.Trace.{Stand, IsGoing, HasWords}
@@ -70,6 +71,11 @@ position_is point other states others number count points kept numbers =
     ∙ ap (λ one. record { point = other; states = one; number = number }) kept
     ∙ ap (λ one. record { point = other; states = others; number = one }) numbers
 
+-- The least of a step and of replies is the agreed step, where this is no longer than the step.
+least_agreed : (h : ℕ) (replies : List ℕ) → agreed_step h replies ≤ h → least_of h replies ≡ agreed_step h replies
+least_agreed h [] most = refl
+least_agreed h (reply ∷ replies) most = omega (arith, most)
+
 module _ (run : Composition) (stand : Stand) (going : IsGoing run stand) where
   no_redo_end : is_redone run stand.at stand.ports ≡ false → redo_end run stand.at stand.ports ≡ None
   no_redo_end whole = ap (λ redone. if redone then redo_end_by run stand.at stand.ports (agreed run stand.at stand.ports) else None) whole
@@ -117,37 +123,28 @@ module _ (run : Composition) (stand : Stand) (going : IsGoing run stand) where
 
   module _ (h : ℕ) (units : List (List ℤ)) (seats : List Seat) (long : AreOfOneLength run.members stand.at.states units seats)
       (are : AreSeats stand.at.point.t h stand.ports (standings run stand.at) units seats) (full : AreFull seats) where
-    trial_by : (found : Option Ending) → first_told slot_end seats ≡ found → h ≡ proposed run stand.at stand.ports → AreMembers run → HasWords run stand.at
-        → LeadsFromTrial run stand h (course_of_trial run stand.at.point h seats)
-    trial_by (Some ending) found is members words =
-        let told : trial_end run stand.at stand.ports ≡ Some ending =
-        sym (trial_told stand.at.point.t h stand.ports run.members stand.at.states units seats long are full
-        ∙ ap (λ step. first_told step_end_of (steps_by run stand.at stand.ports step)) is)
-        ∙ found in
-        subst (λ one. LeadsFromTrial run stand h
-        (end_or one
-        (if nat_lt (least_reply run stand.at.point h seats) h then Redo (least_reply run stand.at.point h seats) else course_on run stand.at.point h)))
-        (sym found)
-        ((λ due. cc (told, due.no_fault)), (ends_in_order run stand going).trial_ends ending told)
-    trial_by None found is members words =
-        let told : trial_end run stand.at stand.ports ≡ None =
-        sym (trial_told stand.at.point.t h stand.ports run.members stand.at.states units seats long are full
-        ∙ ap (λ step. first_told step_end_of (steps_by run stand.at stand.ports step)) is)
-        ∙ found in
-        let least_is : least_reply run stand.at.point h seats ≡ agreed run stand.at stand.ports =
-        ap (agreed_step h) (replies_told stand.at.point.t h stand.ports run.members stand.at.states units seats long are full)
-        ∙ ap (λ step. agreed_step step (replies_to run stand.at stand.ports step)) is in
-        let redone : nat_lt (least_reply run stand.at.point h seats) h ≡ is_redone run stand.at stand.ports =
-        ap (λ least. nat_lt least h) least_is ∙ ap (nat_lt (agreed run stand.at stand.ports)) is in
-        subst (λ one. LeadsFromTrial run stand h
-        (end_or one
-        (if nat_lt (least_reply run stand.at.point h seats) h then Redo (least_reply run stand.at.point h seats) else course_on run stand.at.point h)))
-        (sym found)
-        (no_fault_by (nat_lt (least_reply run stand.at.point h seats) h) h (least_reply run stand.at.point h seats) (sym redone) is least_is members words told)
+    trial_by : (found : Option Ending) → trial_end run stand.at stand.ports ≡ found → h ≡ proposed run stand.at stand.ports → AreMembers run
+        → HasWords run stand.at → LeadsFromTrial run stand h (course_by run stand.at.point h (or_least found (agreed run stand.at stand.ports)))
+    trial_by (Some ending) told is members words = ((λ due. cc (told, due.no_fault)), (ends_in_order run stand going).trial_ends ending told)
+    trial_by None told is members words =
+        no_fault_by (nat_lt (agreed run stand.at stand.ports) h) h (agreed run stand.at stand.ports)
+        (ap (nat_lt (agreed run stand.at stand.ports)) (sym is)) is refl members words told
+
+    -- What is read of the trial.
+    read_is : h ≡ proposed run stand.at stand.ports → AreMembers run → HasWords run stand.at
+        → trial_of stand.at.point.t h (seat_steps run.members seats) ≡ or_least (trial_end run stand.at stand.ports) (agreed run stand.at stand.ports)
+    read_is is members words =
+        trial_read stand.at.point.t h stand.ports run.members stand.at.states units seats long are full
+        ∙ ap (λ step. or_least (first_told step_end_of (steps_by run stand.at stand.ports step)) (least_of step (replies_to run stand.at stand.ports step))) is
+        ∙ ap (or_least (trial_end run stand.at stand.ports))
+        (least_agreed (proposed run stand.at stand.ports) (replies_to run stand.at stand.ports (proposed run stand.at stand.ports))
+        (agreed_is_at_most run stand.at stand.ports members words))
 
     pub trial_leads : h ≡ proposed run stand.at stand.ports → AreMembers run → HasWords run stand.at
         → LeadsFromTrial run stand h (course_of_trial run stand.at.point h seats)
-    trial_leads is members words = trial_by (first_told slot_end seats) refl is members words
+    trial_leads is members words =
+        subst (λ read. LeadsFromTrial run stand h (course_by run stand.at.point h read)) (sym (read_is is members words))
+        (trial_by (trial_end run stand.at stand.ports) refl is members words)
 
     -- The units have the states of the position to which the run goes.
     pub leads_to : (point : Point) → LeadsOn run stand h point
@@ -176,11 +173,12 @@ module _ (run : Composition) (stand : Stand) (going : IsGoing run stand) where
           to = ap (point_after stand.at.point) is;
         })
 
-    told_anew : h ≡ agreed run stand.at stand.ports → first_told redo_slot_end seats ≡ redo_end_by run stand.at stand.ports (agreed run stand.at stand.ports)
-    told_anew is = redo_told_by stand.at.point.t h stand.ports run.members stand.at.states units seats long are full
+    told_anew : h ≡ agreed run stand.at stand.ports
+        → redo_of (seat_steps run.members seats) ≡ redo_end_by run stand.at stand.ports (agreed run stand.at stand.ports)
+    told_anew is = redo_read stand.at.point.t h stand.ports run.members stand.at.states units seats long are full
         ∙ ap (redo_end_by run stand.at stand.ports) is
 
-    redo_by : (found : Option Ending) → first_told redo_slot_end seats ≡ found → h ≡ agreed run stand.at stand.ports
+    redo_by : (found : Option Ending) → redo_of (seat_steps run.members seats) ≡ found → h ≡ agreed run stand.at stand.ports
         → trial_end run stand.at stand.ports ≡ None → is_redone run stand.at stand.ports ≡ true
         → LeadsFromRedo run stand h (course_of_redo run stand.at.point h seats)
     redo_by (Some ending) found is no_fault shorter =
@@ -192,4 +190,4 @@ module _ (run : Composition) (stand : Stand) (going : IsGoing run stand) where
 
     pub redo_leads : h ≡ agreed run stand.at stand.ports → trial_end run stand.at stand.ports ≡ None → is_redone run stand.at stand.ports ≡ true
         → LeadsFromRedo run stand h (course_of_redo run stand.at.point h seats)
-    redo_leads is no_fault shorter = redo_by (first_told redo_slot_end seats) refl is no_fault shorter
+    redo_leads is no_fault shorter = redo_by (redo_of (seat_steps run.members seats)) refl is no_fault shorter

@@ -15,8 +15,8 @@ use Rattle.trace_core.specs.declared.phase.Phase.{Phase}
 use Rattle.trace_core.specs.declared.phase.Phase.TheVariants.{Trial, Redo, Ended}
 use Rattle.trace_core.specs.declared.run.Run.TheInside.{Inside}
 use Rattle.trace_core.specs.declared.seat.Seat.{Seat}
-use Rattle.trace_core.specs.declared.seat.Slot.{Slot}
-use Rattle.trace_core.specs.declared.seat.Slot.TheVariants as slot
+use Rattle.step_rule.specs.declared.steps.Slot.{Slot}
+use Rattle.step_rule.specs.declared.steps.Slot.TheVariants as slot
 use Rattle.trace_core.proofs.KeepLaws.{fit_as}
 use Rattle.trace_core.proofs.SeatLaws.{ids_of, own_kept, saved_kept, are_saved_kept, cells_long, cell_there, cells_set}
 use Rattle.trace_core.proofs.SlotLaws.{AreOfOneLength}
@@ -488,7 +488,6 @@ module _ (r : Inside) (is : IsRun r) (seat : Seat) (instance : ℕ)
         known = is.room.known;
         seats = ap length seats_are ∙ length-set r.seats.items instance new_seat ∙ is.room.seats;
         limits = is.room.limits;
-        replies = is.room.replies;
       };
       own_ids = own_kept r.seats.items seats.items ids_same is.own_ids;
       saved = subst (AreSaved r.snaps seats.items) (sym states_same)

@@ -130,10 +130,10 @@ module _ (r : Inside) (fault : Option Ending) (old : List Seat) (come : Arrival 
 
 -- ---- At a redo
 
-abbrev pub anew : Inside → Fleet → Vec Seat Global → Vec ℕ Global → ℕ → Inside
-anew old units seats replies h = record old { units = units; seats = seats; phase = Redo h; replies = replies }
+abbrev pub anew : Inside → Fleet → Vec Seat Global → ℕ → Inside
+anew old units seats h = record old { units = units; seats = seats; phase = Redo h }
 
-module _ (old : Inside) (is : IsRun old) (units : Fleet) (seats : Vec Seat Global) (replies : Vec ℕ Global) (h : ℕ)
+module _ (old : Inside) (is : IsRun old) (units : Fleet) (seats : Vec Seat Global) (h : ℕ)
     (agreed_on : h ≡ agreed old.plan.value.run (stand_of old).at (stand_of old).ports)
     (begun : AreBegun old.point.t h old.plan.value.run.members old.seats.items seats.items) where
   begun_kept : AreKept old.seats.items seats.items
@@ -154,7 +154,7 @@ module _ (old : Inside) (is : IsRun old) (units : Fleet) (seats : Vec Seat Globa
     own = old.own;
   }
 
-  pub redone_is : run_state (anew old units seats replies h) ≡ with_redo (run_state old)
+  pub redone_is : run_state (anew old units seats h) ≡ with_redo (run_state old)
   redone_is =
       ap (λ states. state_with states (cells_seen (Redo h) seats.items units.states) (inputs_before seats.items) h) same_states
       ∙ ap (λ cells. state_with (saved old.snaps old.seats.items) cells (inputs_before seats.items) h)
@@ -164,11 +164,11 @@ module _ (old : Inside) (is : IsRun old) (units : Fleet) (seats : Vec Seat Globa
       (inputs_before old.seats.items) length) agreed_on
 
   pub redone_run : Stands (with_redo (run_state old)) → units.plan ≡ old.units.plan → units.states ≡ saved old.snaps old.seats.items
-      → units.inputs ≡ old.units.inputs → length replies.items ≡ length old.plan.value.run.members → IsRun (anew old units seats replies h)
-  redone_run stands tied states inputs long = record {
+      → units.inputs ≡ old.units.inputs → IsRun (anew old units seats h)
+  redone_run stands tied states inputs = record {
     stands = subst Stands (sym redone_is) stands;
     tied = tied ∙ is.tied;
-    room = record { ports = is.room.ports; known = is.room.known; seats = begun.as_many ∙ is.room.seats; limits = is.room.limits; replies = long };
+    room = record { ports = is.room.ports; known = is.room.known; seats = begun.as_many ∙ is.room.seats; limits = is.room.limits };
     own_ids = own_kept old.seats.items seats.items begun_kept.ids is.own_ids;
     saved = subst (AreSaved old.snaps seats.items) (sym same_states)
         (are_saved_kept old.snaps old.seats.items seats.items (saved old.snaps old.seats.items) begun_kept.ids is.saved);
@@ -186,15 +186,15 @@ module _ (old : Inside) (is : IsRun old) (units : Fleet) (seats : Vec Seat Globa
 
 -- ---- Where it ends
 
-abbrev pub ended_with : Inside → Vec ℕ Global → Ending → Inside
-ended_with old replies ending = record old { phase = Ended ending; replies = replies }
+abbrev pub ended_with : Inside → Ending → Inside
+ended_with old ending = record old { phase = Ended ending }
 
-pub ended_run : (old : Inside) (replies : Vec ℕ Global) (ending : Ending) → IsRun old → length replies.items ≡ length old.plan.value.run.members
-    → Stands (record (run_state old) { phase = Ended ending; cells = [] }) → IsRun (ended_with old replies ending)
-ended_run old replies ending is long stands = record {
+pub ended_run : (old : Inside) (ending : Ending) → IsRun old
+    → Stands (record (run_state old) { phase = Ended ending; cells = [] }) → IsRun (ended_with old ending)
+ended_run old ending is stands = record {
   stands = stands;
   tied = is.tied;
-  room = record { ports = is.room.ports; known = is.room.known; seats = is.room.seats; limits = is.room.limits; replies = long };
+  room = record { ports = is.room.ports; known = is.room.known; seats = is.room.seats; limits = is.room.limits };
   own_ids = is.own_ids;
   saved = is.saved;
   before = is.before;

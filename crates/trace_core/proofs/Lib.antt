@@ -14,6 +14,7 @@ pub mod OpeningLaws
 pub mod RestoredWords
 pub mod RowLaws
 pub mod SeatLaws
+pub mod SeatSteps
 pub mod SettleLaws
 pub mod Settles
 pub mod SlotLaws

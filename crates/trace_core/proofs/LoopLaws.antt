@@ -3,7 +3,7 @@
 use Rattle.std.proofs.Common.{◌≡◌, ◌∙◌, Bool, true, false, nat_eq, ℕ, zero, suc, ◌+◌, ◌<◌, ◌≤◌, ℤ, List, [], ◌∷◌, ◌++◌, length, map, take, drop, get_or, set}
 use Rattle.std.proofs.Common.{Option, Some, None, Result, Ok, Err, refl, ap, sym, subst, arith, append_assoc, append-nil, length-set, get_or-set_same}
 use Rattle.std.proofs.Common.{get_or-set_other}
-use Rattle.std.proofs.lemmas.List.{at_drop_more, drop_more, drop_all, take_all, take_more, take_more_set, set_at, get_or_at, length-take-le, length-map}
+use Rattle.std.proofs.lemmas.List.{at_drop_more, drop_more, drop_all, take_more, take_more_set, set_at, get_or_at, length-take-le, length-map}
 use Rattle.std.proofs.lemmas.List.{get_or-map}
 use Rattle.std.proofs.lemmas.Bool.Decides.{nat_tests}
 use Rattle.std.proofs.lemmas.Option.{same_Some, get_or_from_slice_get, slice_get_within}
@@ -13,10 +13,8 @@ use Rattle.fixed_words.specs.declared.types.Fault.{Fault}
 use Rattle.snap_store.specs.Store.{Store, words_of, IsLive, HasLength, KeepsOthers}
 use Rattle.port_solve.specs.Solved.{HaveStates, HaveInputs}
 use Rattle.super_time.specs.LocalTime.{local_time, limit_of}
-use Rattle.trace_core.specs.Seats.{AreAsLong, AreSaved, saved, HaveOwnIds, IsCommitted, end_in, slot_end, reply_in, slot_reply, replied, max_told, all_told}
+use Rattle.trace_core.specs.Seats.{AreAsLong, AreSaved, saved, HaveOwnIds, IsCommitted, max_told, all_told}
 use Rattle.trace_core.specs.Seats.{limits_told, ending_or, asked}
-use Rattle.trace_core.specs.declared.seat.Slot.{Slot}
-use Rattle.trace_core.specs.declared.seat.Slot.TheVariants as slot
 use Rattle.trace_plan.specs.Plans.{Planned, ForMember, places_from, has_max}
 use Rattle.trace_units.specs.Fleets.{Fleet, ForUnit, with_state}
 use Rattle.trace_core.specs.declared.seat.Seat.{Seat}
@@ -24,7 +22,7 @@ use Rattle.unit_tree.specs.Compositions.{Member, Composition}
 use Rattle.unit_tree.specs.Components.{max_of, limit_by, environment_of}
 use Rattle.unit_tree.specs.Negotiation.{limit_told, proposal_of}
 use Rattle.unit_tree.specs.Ports.{first_some}
-use Rattle.unit_tree.specs.Successor.{first_told, max_end_of}
+use Rattle.unit_tree.specs.Successor.{max_end_of}
 use Rattle.unit_tree.specs.declared.ending.Ending.TheVariants.{UnitFault}
 use Rattle.unit_tree.specs.declared.ending.Place.TheVariants as call
 use Rattle.list_laws.proofs.Members.{at_place}
@@ -408,73 +406,6 @@ module _ (t : ℕ) (plan : Planned) (fleet : Fleet) (tied : fleet.plan ≡ plan)
       told_many t plan.run.members fleet.states fleet.inputs in
       let past_members = none.1 in omega (arith, many, past_members) in
       all_asked plan.run t none.0 count (all_told t plan.run.members fleet.states fleet.inputs) limits none.1 told_past none.2
-
--- ---- The replies of all seats
-
-ok_end : (factor t h instance reply : ℕ) (given : Slot) → replied factor t h given ≡ Ok reply → end_in instance given ≡ None
-ok_end factor t h instance reply slot.Held is = refl
-ok_end factor t h instance reply slot.Empty is = refl
-ok_end factor t h instance reply (slot.Took accepted) is = refl
-ok_end factor t h instance reply (slot.Failed fault) is = absurd (cc)
-
-ok_reply : (factor t h reply : ℕ) (given : Slot) → replied factor t h given ≡ Ok reply → reply_in factor t h given ≡ reply
-ok_reply factor t h reply slot.Held is = cc
-ok_reply factor t h reply slot.Empty is = cc
-ok_reply factor t h reply (slot.Took accepted) is = cc
-ok_reply factor t h reply (slot.Failed fault) is = absurd (cc)
-
-err_end : (factor t h instance : ℕ) (fault : Fault) (given : Slot) → replied factor t h given ≡ Err fault
-    → end_in instance given ≡ Some (UnitFault instance call.Step fault)
-err_end factor t h instance fault slot.Held is = absurd (cc)
-err_end factor t h instance fault slot.Empty is = absurd (cc)
-err_end factor t h instance fault (slot.Took accepted) is = absurd (cc)
-err_end factor t h instance fault (slot.Failed met) is = let same : met ≡ fault = cc in ap (λ some. Some (UnitFault instance call.Step some)) same
-
--- No seat before a place ended the run, and their replies are known.
-pub record ReadSoFar (t h : ℕ) (members : List Member) (seats : List Seat) (place : ℕ) (replies : List ℕ) : Type 0 where
-  pub no_end : ToldFrom slot_end seats place
-  pub made : MadeSoFar replies place (map (slot_reply t h) (zip (drop place members) (drop place seats))) (map (slot_reply t h) (zip members seats))
-
-module _ (t h : ℕ) (members : List Member) (seats : List Seat) where
-  next_reply : (place : ℕ) (member : Member) (seat : Seat) → place < length members → place < length seats → slice_get members place ≡ Some member
-      → seat ≡ get_or seats place seat
-      → map (slot_reply t h) (zip (drop place members) (drop place seats))
-      ≡ slot_reply t h (member, seat) ∷ map (slot_reply t h) (zip (drop (place + 1) members) (drop (place + 1) seats))
-  next_reply place member seat in_members in_seats at is =
-      ap (λ some. map (slot_reply t h) (zip some (drop place seats)))
-      (drop_more members place member in_members ∙ ap (λ one. one ∷ drop (place + 1) members) (get_or_from_slice_get members place member member at))
-      ∙ ap (λ some. map (slot_reply t h) (zip (member ∷ drop (place + 1) members) some))
-      (drop_more seats place seat in_seats ∙ ap (λ one. one ∷ drop (place + 1) seats) (sym is))
-
-  pub next_read : (place factor reply : ℕ) (replies : List ℕ) (seat : Seat) → place < length members → place < length seats → place < length replies
-      → ((member : Member) → slice_get members place ≡ Some member → factor ≡ member.factor) → seat ≡ get_or seats place seat
-      → replied factor t h seat.slot ≡ Ok reply → ReadSoFar t h members seats place replies
-      → ReadSoFar t h members seats (place + 1) (set replies place reply)
-  next_read place factor reply replies seat in_members in_seats in_replies factors is told so_far =
-      let at = at_place members place in_members in
-      let same : slot_reply t h (at.0, seat) ≡ reply = ap (λ n. reply_in n t h seat.slot) (sym (factors at.0 at.1))
-      ∙ ok_reply factor t h reply seat.slot told in
-      record {
-        no_end = told_none slot_end seats place seat in_seats is (ok_end factor t h place reply seat.slot told) so_far.no_end;
-        made =
-            one_made replies place reply (map (slot_reply t h) (zip (drop (place + 1) members) (drop (place + 1) seats)))
-            (map (slot_reply t h) (zip (drop place members) (drop place seats))) (map (slot_reply t h) (zip members seats)) in_replies
-            (next_reply place at.0 seat in_members in_seats at.1 is
-            ∙ ap (λ one. one ∷ map (slot_reply t h) (zip (drop (place + 1) members) (drop (place + 1) seats))) same)
-            so_far.made;
-      }
-
-  pub read_fault : (place factor : ℕ) (replies : List ℕ) (seat : Seat) (fault : Fault) → place < length seats → seat ≡ get_or seats place seat
-      → replied factor t h seat.slot ≡ Err fault → ReadSoFar t h members seats place replies
-      → Some (UnitFault place call.Step fault) ≡ first_told slot_end seats
-  read_fault place factor replies seat fault within is told so_far =
-      told_some slot_end seats place seat (UnitFault place call.Step fault) within is (err_end factor t h place fault seat.slot told) so_far.no_end
-
-  pub all_replies : (place : ℕ) (replies : List ℕ) → length members ≤ place → length replies ≤ place → ReadSoFar t h members seats place replies
-      → replies ≡ map (slot_reply t h) (zip members seats)
-  all_replies place replies past full so_far =
-      sym (take_all place replies full) ∙ sym (append-nil (take place replies))
-      ∙ ap (λ some. take place replies ++ map (slot_reply t h) (zip some (drop place seats))) (sym (drop_all place members past)) ∙ so_far.made
 
 -- ---- States that are restored
 

@@ -1,5 +1,5 @@
 -- A run after it was settled.
-use Rattle.std.proofs.Common.{◌≡◌, ◌∙◌, ℕ, ◌+◌, ◌<◌, Bool, true, false, ℤ, List, [], Option, Vec, Global, refl, sym, ap, subst, inl}
+use Rattle.std.proofs.Common.{◌≡◌, ◌∙◌, ℕ, ◌+◌, ◌<◌, ◌≤◌, Bool, true, false, ℤ, List, [], Option, Vec, Global, refl, sym, ap, subst, inl}
 use Rattle.std.specs.Prelude.{is_none, if◌then◌else◌}
 use Rattle.trace_core.specs.declared.phase.Settle.TheVariants as settle
 use Rattle.port_solve.specs.Solved.{HaveStates}
@@ -28,15 +28,14 @@ use Rattle.unit_tree.specs.Trace.{Stand, Goes, IsStand, HasWords, IsInBounds, Is
 use Rattle.unit_tree.specs.declared.ending.Ending.{Ending}
 
 -- The run at its next point.
-abbrev pub moved_on : Inside → Fleet → Vec Seat Global → Store → Vec ℤ Global → Vec Bool Global → Vec ℕ Global → Vec ℕ Global → Phase → Point → Bool → Inside
-moved_on r units seats snaps ports known limits replies phase point solved = record r {
+abbrev pub moved_on : Inside → Fleet → Vec Seat Global → Store → Vec ℤ Global → Vec Bool Global → Vec ℕ Global → Phase → Point → Bool → Inside
+moved_on r units seats snaps ports known limits phase point solved = record r {
   units = units;
   seats = seats;
   snaps = snaps;
   ports = ports;
   known = known;
   limits = limits;
-  replies = replies;
   phase = phase;
   point = point;
   number = r.number + 1;
@@ -86,12 +85,19 @@ module _ (r : Inside) (is : IsRun r) (have : HaveStates r.plan.value.run r.units
         let on : Goes run (stand_of r) next = (led_on.1 ∙ ap goes (sym same), right) in
         subst (λ at. at.number < run.row_budget) same (stands_moved (run_state r) next is.stands going on).in_rows
 
-    module _ (units : Fleet) (seats : Vec Seat Global) (snaps : Store) (ports : Vec ℤ Global) (known : Vec Bool Global) (limits replies : Vec ℕ Global)
+    -- So is its time within the stop.
+    pub next_in_time : (next : Stand) → next.at ≡ record { point = point; states = r.units.states; number = r.number + 1 } → IsStand run next
+        → point.t ≤ run.stop
+    next_in_time next same right =
+        let on : Goes run (stand_of r) next = (led_on.1 ∙ ap goes (sym same), right) in
+        subst (λ at. at.point.t ≤ run.stop) same (stands_moved (run_state r) next is.stands going on).in_bounds.stop
+
+    module _ (units : Fleet) (seats : Vec Seat Global) (snaps : Store) (ports : Vec ℤ Global) (known : Vec Bool Global) (limits : Vec ℕ Global)
         (phase : Phase) (solved : Bool) (fault : Option Ending) (old : List Seat)
-        (come : Arrival (moved_on r units seats snaps ports known limits replies phase point solved) fault old) (kept : units.states ≡ r.units.states)
+        (come : Arrival (moved_on r units seats snaps ports known limits phase point solved) fault old) (kept : units.states ≡ r.units.states)
         (fed : inputs_before old ≡ r.units.inputs) where
       abbrev next : Inside
-      next = moved_on r units seats snaps ports known limits replies phase point solved
+      next = moved_on r units seats snaps ports known limits phase point solved
 
       on : Goes run (stand_of r) (stand_of next)
       on = (

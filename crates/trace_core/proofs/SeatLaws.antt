@@ -13,7 +13,7 @@ use Rattle.trace_core.specs.Seats.{IsBegun, AreBegun, cell_in, cells_in, fresh_s
 use Rattle.trace_core.specs.declared.phase.Phase.{Phase}
 use Rattle.trace_core.specs.declared.phase.Phase.TheVariants.{Trial, Redo, Ended}
 use Rattle.trace_core.specs.declared.seat.Seat.{Seat}
-use Rattle.trace_core.specs.declared.seat.Slot.TheVariants as slot
+use Rattle.step_rule.specs.declared.steps.Slot.TheVariants as slot
 use Rattle.unit_tree.specs.Compositions.{Member, Composition}
 use Rattle.unit_tree.specs.Negotiation.{is_held}
 

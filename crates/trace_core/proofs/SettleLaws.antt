@@ -14,12 +14,12 @@ use Rattle.trace_core.specs.declared.phase.Phase.{Phase}
 use Rattle.trace_core.specs.declared.phase.Phase.TheVariants.{Trial, Redo, Ended}
 use Rattle.trace_core.specs.declared.run.Run.TheInside.{Inside}
 use Rattle.trace_core.specs.declared.seat.Seat.{Seat}
-use Rattle.trace_core.specs.declared.seat.Slot.{Slot}
-use Rattle.trace_core.specs.declared.seat.Slot.TheVariants as slot
+use Rattle.step_rule.specs.declared.steps.Slot.{Slot}
+use Rattle.step_rule.specs.declared.steps.Slot.TheVariants as slot
 use Rattle.trace_core.proofs.CourseLaws.{IsDue, LeadsFromTrial, LeadsFromRedo, trial_leads, redo_leads, leads_to}
 use Rattle.trace_core.proofs.KeepLaws.{fit_as}
 use Rattle.trace_core.proofs.OpeningLaws.{states_long}
-use Rattle.trace_core.proofs.SlotLaws.{AreOfOneLength, accepted_within, have_clocks}
+use Rattle.trace_core.proofs.SlotLaws.{AreOfOneLength, are_asked}
 use Rattle.trace_core.proofs.StandLaws.{one_state, now_at_most}
 use Rattle.unit_tree.specs.Compositions.{Composition}
 use Rattle.unit_tree.specs.Successor.{limits, proposed, agreed, goes, ends, successor}
@@ -95,8 +95,7 @@ module _ (r : Inside) (is : IsRun r) (have : HaveStates r.plan.value.run r.units
       let seats = fit_as r is (Trial h) same in
       let tried = phase_by (Trial h) same in
       record {
-        clocks = have_clocks r.point.t h stand.ports run.members stand.at.states r.units.states r.seats.items long seats;
-        within = accepted_within r.point.t h stand.ports run.members stand.at.states r.units.states r.seats.items long seats is.stands.members is.stands.words;
+        asked = are_asked r.point.t h stand.ports run.members stand.at.states r.units.states r.seats.items long seats;
         in_time = subst (λ step. r.point.t + step ≤ 10 ^ 15) (sym tried.is) proposed_in_time;
       }
   ready_by (Redo h) same = let redone = phase_by (Redo h) same in subst (λ step. r.point.t + step ≤ 10 ^ 15) (sym redone.is) agreed_in_time

@@ -1,43 +1,36 @@
 -- The step of a full slot, the states of units after it, and the seats at the beginning of a step.
-use Rattle.std.proofs.Common.{◌≡◌, ◌∙◌, ℕ, ◌+◌, ◌≤◌, cond, Bool, true, false, ℤ, List, [], ◌∷◌, length, map, Option, Some, None, Result, Ok, Err, refl, ap, sym}
+use Rattle.std.proofs.Common.{◌≡◌, ◌∙◌, ℕ, cond, Bool, true, false, ℤ, List, [], ◌∷◌, length, map, Option, Some, None, Result, refl, ap, ap₂, sym}
 use Rattle.std.proofs.Common.{subst, arith}
-use Rattle.std.proofs.lemmas.Slice.Zip.{firsts-zip, seconds-zip}
-use Rattle.std.specs.Prelude.{zip, nat_lt, unwrap_or}
-use Rattle.std.specs.List.{AllByRecursion, AllZip, enumerate_from}
+use Rattle.std.proofs.lemmas.List.{length-map}
+use Rattle.std.proofs.lemmas.Slice.Zip.{firsts-zip, length-zip, seconds-zip}
+use Rattle.std.specs.Prelude.{zip, unwrap_or}
+use Rattle.std.specs.List.{AllByRecursion, AllZip}
 use Rattle.fixed_words.specs.declared.types.Fault.{Fault}
 use Rattle.snap_store.specs.Store.{Store}
 use Rattle.super_time.specs.LocalTime.{local_time, local_step}
 use Rattle.trace_core.specs.Slots.{is_empty}
-use Rattle.trace_core.specs.Seats.{SlotIs, AreFull, IsSeat, AreSeats, IsBegun, AreBegun, end_in, slot_end, redo_end_in, redo_slot_end, reply_in, slot_reply}
-use Rattle.trace_core.specs.Seats.{HaveClocks, IsWithin, AreWithin, AreSaved, saved}
+use Rattle.step_rule.specs.Steps.{AreAsked, or_least, redo_of, slot_of, step_of, steps_of, trial_of}
+use Rattle.step_rule.proofs.MemberLaws.{redo_by_results, trial_by_results}
+use Rattle.trace_core.specs.Seats.{SlotIs, AreFull, IsSeat, AreSeats, IsBegun, AreBegun, AreSaved, saved, seat_step, seat_steps}
 use Rattle.trace_core.specs.declared.seat.Seat.{Seat}
-use Rattle.trace_core.specs.declared.seat.Slot.{Slot}
-use Rattle.trace_core.specs.declared.seat.Slot.TheVariants as slot
-use Rattle.unit_tree.specs.Components.{Moved, step_of}
-use Rattle.unit_tree.specs.Compositions.{Member, IsMember}
-use Rattle.unit_tree.specs.Negotiation.{is_held, inputs_at, step_at, reply_at, state_after}
-use Rattle.unit_tree.specs.Ports.{Ports, Standing, first_some}
-use Rattle.unit_tree.specs.Successor.{when, first_told, step_end_of, redo_end_of}
-use Rattle.unit_tree.specs.declared.ending.Ending.{Ending}
-use Rattle.unit_tree.specs.declared.ending.Ending.TheVariants.{StepRefused}
-use Rattle.run_laws.proofs.EffectKeeps.{step_keeps}
-use Rattle.run_laws.proofs.PositionLaws.{Words}
+use Rattle.step_rule.specs.declared.steps.Slot.{Slot}
+use Rattle.step_rule.specs.declared.steps.Slot.TheVariants as slot
+use Rattle.unit_tree.specs.Components.{Moved}
+use Rattle.unit_tree.specs.Components as component
+use Rattle.unit_tree.specs.Compositions.{Member}
+use Rattle.unit_tree.specs.Negotiation.{is_held, inputs_at, least_of, step_at, reply_at, state_after}
+use Rattle.unit_tree.specs.Ports.{Ports, Standing}
+use Rattle.unit_tree.specs.Successor.{first_told, step_end_of, redo_end_of}
 
 -- ---- One slot
 
--- The step of a full slot, with the state that the unit has.
-abbrev told_by : Slot → List ℤ → Option (Result Moved Fault)
-told_by slot.Held unit = None
-told_by slot.Empty unit = None
-told_by (slot.Took accepted) unit = Some (Ok (record { state = unit; accepted = accepted }))
-told_by (slot.Failed fault) unit = Some (Err fault)
-
-full_tells : (step : Option (Result Moved Fault)) (given : Slot) (unit committed : List ℤ) → SlotIs step given unit committed → is_empty given ≡ false
-    → step ≡ told_by given unit
-full_tells step slot.Held unit committed is full = is.0
-full_tells step slot.Empty unit committed is full = absurd (cc)
-full_tells step (slot.Took accepted) unit committed is full = is
-full_tells step (slot.Failed fault) unit committed is full = is.0
+-- A full slot has the result of its step.
+slot_is : (step : Option (Result Moved Fault)) (given : Slot) (unit committed : List ℤ) → SlotIs step given unit committed → is_empty given ≡ false
+    → given ≡ slot_of step
+slot_is step slot.Held unit committed is full = sym (ap slot_of is.0)
+slot_is step slot.Empty unit committed is full = absurd (cc)
+slot_is step (slot.Took accepted) unit committed is full = sym (ap slot_of is)
+slot_is step (slot.Failed fault) unit committed is full = sym (ap slot_of is.0)
 
 full_keeps : (step : Option (Result Moved Fault)) (given : Slot) (unit committed : List ℤ) → SlotIs step given unit committed → is_empty given ≡ false
     → state_after (committed, step) ≡ unit
@@ -45,25 +38,6 @@ full_keeps step slot.Held unit committed is full = ap (λ (made : Option (Result
 full_keeps step slot.Empty unit committed is full = absurd (cc)
 full_keeps step (slot.Took accepted) unit committed is full = ap (λ (made : Option (Result Moved Fault)). state_after (committed, made)) is
 full_keeps step (slot.Failed fault) unit committed is full = ap (λ (made : Option (Result Moved Fault)). state_after (committed, made)) is.0 ∙ sym is.1
-
-end_told : (instance : ℕ) (given : Slot) (unit : List ℤ) → step_end_of (instance, told_by given unit) ≡ end_in instance given
-end_told instance slot.Held unit = refl
-end_told instance slot.Empty unit = refl
-end_told instance (slot.Took accepted) unit = refl
-end_told instance (slot.Failed fault) unit = refl
-
-redo_told : (t h instance asked : ℕ) (member : Member) (given : Slot) (unit : List ℤ) → asked ≡ local_step member.factor t h
-    → redo_end_of t h (instance, (member, told_by given unit)) ≡ redo_end_in instance asked given
-redo_told t h instance asked member slot.Held unit is = refl
-redo_told t h instance asked member slot.Empty unit is = refl
-redo_told t h instance asked member (slot.Took accepted) unit is = ap (λ step. when (nat_lt accepted step) (StepRefused instance step accepted)) (sym is)
-redo_told t h instance asked member (slot.Failed fault) unit is = refl
-
-reply_told : (t h : ℕ) (member : Member) (given : Slot) (unit : List ℤ) → reply_at t h (member, told_by given unit) ≡ reply_in member.factor t h given
-reply_told t h member slot.Held unit = refl
-reply_told t h member slot.Empty unit = refl
-reply_told t h member (slot.Took accepted) unit = refl
-reply_told t h member (slot.Failed fault) unit = refl
 
 -- ---- Slots in their order
 
@@ -86,102 +60,40 @@ module _ (t h : ℕ) (ports : Ports) where
   abbrev AreIn : List Standing → List (List ℤ × Seat) → Type 0
   AreIn standings pairs = AllZip (IsSeat t h ports) standings pairs
 
-  abbrev steps : List Standing → List (Option (Result Moved Fault))
-  steps standings = map (step_at t h ports) standings
+  abbrev results : List Standing → List (Option (Result Moved Fault))
+  results standings = map (step_at t h ports) standings
 
-  told_is : (standing : Standing) (pair : List ℤ × Seat) → IsSeat t h ports standing pair → is_empty pair.1.slot ≡ false
-      → step_at t h ports standing ≡ told_by pair.1.slot pair.0
-  told_is standing pair is full = full_tells (step_at t h ports standing) pair.1.slot pair.0 standing.1 is.slot full
+  step_is : (standing : Standing) (pair : List ℤ × Seat) → IsSeat t h ports standing pair → is_empty pair.1.slot ≡ false
+      → seat_step (standing.0, pair.1) ≡ step_of t h (standing.0, step_at t h ports standing)
+  step_is standing pair is full =
+      ap₂ (λ asked made. (record { factor = standing.0.factor; asked = asked; slot = made })) is.clock.step
+      (slot_is (step_at t h ports standing) pair.1.slot pair.0 standing.1 is.slot full)
 
-  or_first : (one other : Option Ending) (rest last : List (Option Ending)) → one ≡ other → first_some rest ≡ first_some last
-      → first_some (one ∷ rest) ≡ first_some (other ∷ last)
-  or_first (Some one) other rest last same later = ap (λ first. first_some (first ∷ last)) same
-  or_first None other rest last same later = later ∙ ap (λ first. first_some (first ∷ last)) same
+  steps_in : (standings : List Standing) (pairs : List (List ℤ × Seat)) → AreIn standings pairs → AreFullIn pairs
+      → seat_steps (members_in standings) (seats_in pairs) ≡ steps_of t h (members_in standings) (results standings)
+  steps_in [] [] are full = refl
+  steps_in [] (pair ∷ pairs) are full = absurd are
+  steps_in (standing ∷ standings) [] are full = absurd are
+  steps_in (standing ∷ standings) (pair ∷ pairs) are full =
+      ap₂ (λ step steps. step ∷ steps) (step_is standing pair are.0 full.0) (steps_in standings pairs are.1 full.1)
 
-  ends_from : (first : ℕ) (standings : List Standing) (pairs : List (List ℤ × Seat)) → AreIn standings pairs → AreFullIn pairs
-      → first_some (map slot_end (enumerate_from first (seats_in pairs))) ≡ first_some (map step_end_of (enumerate_from first (steps standings)))
-  ends_from first [] [] are full = refl
-  ends_from first [] (pair ∷ pairs) are full = absurd are
-  ends_from first (standing ∷ standings) [] are full = absurd are
-  ends_from first (standing ∷ standings) (pair ∷ pairs) are full =
-      or_first (slot_end (first, pair.1)) (step_end_of (first, step_at t h ports standing)) (map slot_end (enumerate_from (first + 1) (seats_in pairs)))
-      (map step_end_of (enumerate_from (first + 1) (steps standings)))
-      (sym (ap (λ (step : Option (Result Moved Fault)). step_end_of (first, step)) (told_is standing pair are.0 full.0) ∙ end_told first pair.1.slot pair.0))
-      (ends_from (first + 1) standings pairs are.1 full.1)
-
-  redo_ends_from : (first : ℕ) (standings : List Standing) (pairs : List (List ℤ × Seat)) → AreIn standings pairs → AreFullIn pairs
-      → first_some (map redo_slot_end (enumerate_from first (seats_in pairs)))
-      ≡ first_some (map (redo_end_of t h) (enumerate_from first (zip (members_in standings) (steps standings))))
-  redo_ends_from first [] [] are full = refl
-  redo_ends_from first [] (pair ∷ pairs) are full = absurd are
-  redo_ends_from first (standing ∷ standings) [] are full = absurd are
-  redo_ends_from first (standing ∷ standings) (pair ∷ pairs) are full =
-      or_first (redo_slot_end (first, pair.1)) (redo_end_of t h (first, (standing.0, step_at t h ports standing)))
-      (map redo_slot_end (enumerate_from (first + 1) (seats_in pairs)))
-      (map (redo_end_of t h) (enumerate_from (first + 1) (zip (members_in standings) (steps standings))))
-      (sym (ap (λ (step : Option (Result Moved Fault)). redo_end_of t h (first, (standing.0, step))) (told_is standing pair are.0 full.0)
-      ∙ redo_told t h first pair.1.step standing.0 pair.1.slot pair.0 are.0.clock.step))
-      (redo_ends_from (first + 1) standings pairs are.1 full.1)
-
-  replies_in : (standings : List Standing) (pairs : List (List ℤ × Seat)) → AreIn standings pairs → AreFullIn pairs
-      → map (reply_at t h) (zip (members_in standings) (steps standings)) ≡ map (slot_reply t h) (zip (members_in standings) (seats_in pairs))
-  replies_in [] [] are full = refl
-  replies_in [] (pair ∷ pairs) are full = absurd are
-  replies_in (standing ∷ standings) [] are full = absurd are
-  replies_in (standing ∷ standings) (pair ∷ pairs) are full =
-      let first : reply_at t h (standing.0, step_at t h ports standing) ≡ slot_reply t h (standing.0, pair.1) =
-      ap (λ (step : Option (Result Moved Fault)). reply_at t h (standing.0, step)) (told_is standing pair are.0 full.0)
-      ∙ reply_told t h standing.0 pair.1.slot pair.0 in
-      ap (λ reply. reply ∷ map (reply_at t h) (zip (members_in standings) (steps standings))) first
-      ∙ ap (λ replies. slot_reply t h (standing.0, pair.1) ∷ replies) (replies_in standings pairs are.1 full.1)
+  asked_in : (standings : List Standing) (pairs : List (List ℤ × Seat)) → AreIn standings pairs
+      → AreAsked t h (seat_steps (members_in standings) (seats_in pairs))
+  asked_in [] [] are = tt
+  asked_in [] (pair ∷ pairs) are = absurd are
+  asked_in (standing ∷ standings) [] are = absurd are
+  asked_in (standing ∷ standings) (pair ∷ pairs) are = (are.0.clock.step, asked_in standings pairs are.1)
 
   units_after : (standings : List Standing) (pairs : List (List ℤ × Seat)) → AreIn standings pairs → AreFullIn pairs
-      → map state_after (zip (states_in standings) (steps standings)) ≡ units_in pairs
+      → map state_after (zip (states_in standings) (results standings)) ≡ units_in pairs
   units_after [] [] are full = refl
   units_after [] (pair ∷ pairs) are full = absurd are
   units_after (standing ∷ standings) [] are full = absurd are
   units_after (standing ∷ standings) (pair ∷ pairs) are full =
       let first : state_after (standing.1, step_at t h ports standing) ≡ pair.0 =
       full_keeps (step_at t h ports standing) pair.1.slot pair.0 standing.1 are.0.slot full.0 in
-      ap (λ state. state ∷ map state_after (zip (states_in standings) (steps standings))) first
+      ap (λ state. state ∷ map state_after (zip (states_in standings) (results standings))) first
       ∙ ap (λ units. pair.0 ∷ units) (units_after standings pairs are.1 full.1)
-
-  -- By whether the member is held, and by the result of its step.
-  within_by : (held : Bool) (result : Result Moved Fault) (member : Member) (state : List ℤ) (asked time : ℕ) (inputs unit : List ℤ) (given : Slot)
-      → IsMember member → Words member state → asked ≡ local_step member.factor t h
-      → step_of member.component state inputs time (local_step member.factor t h) ≡ result → SlotIs (cond held None (Some result)) given unit state
-      → IsWithin asked given
-  within_by held result member state asked time inputs unit slot.Held is words clock gives slot_is = tt
-  within_by held result member state asked time inputs unit slot.Empty is words clock gives slot_is = tt
-  within_by held result member state asked time inputs unit (slot.Failed fault) is words clock gives slot_is = tt
-  within_by true result member state asked time inputs unit (slot.Took accepted) is words clock gives slot_is = absurd (cc)
-  within_by false (Err fault) member state asked time inputs unit (slot.Took accepted) is words clock gives slot_is = absurd (cc)
-  within_by false (Ok moved) member state asked time inputs unit (slot.Took accepted) is words clock gives slot_is =
-      let same : moved.accepted ≡ accepted = ap (λ (m : Moved). m.accepted) (same_moved moved (record { state = unit; accepted = accepted }) slot_is) in
-      let kept = (step_keeps member.component state inputs time (local_step member.factor t h) moved is.params words gives).accepted in
-      subst (λ step. accepted ≤ step) (sym clock) (subst (λ taken. taken ≤ local_step member.factor t h) same kept)
-    where
-      same_moved : (one other : Moved) → ◌≡◌ {A = Option (Result Moved Fault)} (Some (Ok one)) (Some (Ok other)) → one ≡ other
-      same_moved one other is = cc
-
-  within_in : (standings : List Standing) (pairs : List (List ℤ × Seat)) → AreIn standings pairs
-      → AllByRecursion (λ standing. IsMember standing.0 × Words standing.0 standing.1) standings → AreWithin (seats_in pairs)
-  within_in [] [] are words = tt
-  within_in [] (pair ∷ pairs) are words = absurd are
-  within_in (standing ∷ standings) [] are words = absurd are
-  within_in (standing ∷ standings) (pair ∷ pairs) are words = (
-    within_by (is_held standing.0.factor t h)
-        (step_of standing.0.component standing.1 (inputs_at ports standing.0) (local_time standing.0.factor t)
-        (local_step standing.0.factor t h)) standing.0 standing.1 pair.1.step
-        (local_time standing.0.factor t) (inputs_at ports standing.0) pair.0 pair.1.slot words.0.0 words.0.1 are.0.clock.step refl are.0.slot,
-    within_in standings pairs are.1 words.1,
-  )
-
-  clocks_in : (standings : List Standing) (pairs : List (List ℤ × Seat)) → AreIn standings pairs → HaveClocks t h (members_in standings) (seats_in pairs)
-  clocks_in [] [] are = tt
-  clocks_in [] (pair ∷ pairs) are = absurd are
-  clocks_in (standing ∷ standings) [] are = absurd are
-  clocks_in (standing ∷ standings) (pair ∷ pairs) are = (are.0.clock, clocks_in standings pairs are.1)
 
 -- ---- Seats of members
 
@@ -190,13 +102,6 @@ pub record AreOfOneLength (members : List Member) (states units : List (List ℤ
   pub each_state : length states ≡ length members
   pub each_unit : length units ≡ length members
   pub each_seat : length seats ≡ length members
-
-standing_words : (members : List Member) (states : List (List ℤ)) → AllByRecursion IsMember members → AllZip Words members states
-    → AllByRecursion (λ standing. IsMember standing.0 × Words standing.0 standing.1) (zip members states)
-standing_words [] [] are words = tt
-standing_words [] (state ∷ states) are words = absurd words
-standing_words (member ∷ members) [] are words = absurd words
-standing_words (member ∷ members) (state ∷ states) are words = ((are.0, words.0), standing_words members states are.1 words.1)
 
 module _ (t h : ℕ) (ports : Ports) (members : List Member) (states units : List (List ℤ)) (seats : List Seat)
     (long : AreOfOneLength members states units seats) (are : AreSeats t h ports (zip members states) units seats) where
@@ -212,42 +117,40 @@ module _ (t h : ℕ) (ports : Ports) (members : List Member) (states units : Lis
   units_are : units_in (zip units seats) ≡ units
   units_are = firsts-zip units seats (long.each_seat ∙ sym long.each_unit)
 
-  abbrev pub steps_of : List (Option (Result Moved Fault))
-  steps_of = map (step_at t h ports) (zip members states)
+  abbrev pub results_of : List (Option (Result Moved Fault))
+  results_of = map (step_at t h ports) (zip members states)
 
-  pub have_clocks : HaveClocks t h members seats
-  have_clocks =
-      subst (λ some. HaveClocks t h some seats) members_are
-      (subst (HaveClocks t h (members_in (zip members states))) seats_are (clocks_in t h ports (zip members states) (zip units seats) are))
-
-  -- What was accepted is at most the local step, whether or not all slots are full.
-  pub accepted_within : AllByRecursion IsMember members → AllZip Words members states → AreWithin seats
-  accepted_within are_members words =
-      subst AreWithin seats_are (within_in t h ports (zip members states) (zip units seats) are (standing_words members states are_members words))
+  -- The members are asked for their local steps, whether or not all slots are full.
+  pub are_asked : AreAsked t h (seat_steps members seats)
+  are_asked =
+      subst (λ some. AreAsked t h (seat_steps some seats)) members_are
+      (subst (λ some. AreAsked t h (seat_steps (members_in (zip members states)) some)) seats_are
+      (asked_in t h ports (zip members states) (zip units seats) are))
 
   module _ (full : AreFull seats) where
     full_in : AreFullIn (zip units seats)
     full_in = subst AreFull (sym seats_are) full
 
-    pub trial_told : first_told slot_end seats ≡ first_told step_end_of steps_of
-    trial_told = ap (first_told slot_end) (sym seats_are) ∙ ends_from t h ports 0 (zip members states) (zip units seats) are full_in
+    -- The steps of the seats are those of the members, by their results.
+    steps_are : seat_steps members seats ≡ steps_of t h members results_of
+    steps_are =
+        ap₂ seat_steps (sym members_are) (sym seats_are)
+        ∙ steps_in t h ports (zip members states) (zip units seats) are full_in
+        ∙ ap (λ some. steps_of t h some results_of) members_are
 
-    pub redo_told_by : first_told redo_slot_end seats ≡ first_told (redo_end_of t h) (zip members steps_of)
-    redo_told_by =
-        ap (first_told redo_slot_end) (sym seats_are)
-        ∙ redo_ends_from t h ports 0 (zip members states) (zip units seats) are full_in
-        ∙ ap (λ some. first_told (redo_end_of t h) (zip some steps_of)) members_are
+    results_long : length results_of ≡ length members
+    results_long = length-map (zip members states) (step_at t h ports) ∙ omega (arith, length-zip members states, long.each_state)
 
-    pub replies_told : map (slot_reply t h) (zip members seats) ≡ map (reply_at t h) (zip members steps_of)
-    replies_told =
-        ap (λ some. map (slot_reply t h) (zip members some)) (sym seats_are)
-        ∙ ap (λ some. map (slot_reply t h) (zip some (seats_in (zip units seats)))) (sym members_are)
-        ∙ sym (replies_in t h ports (zip members states) (zip units seats) are full_in)
-        ∙ ap (λ some. map (reply_at t h) (zip some steps_of)) members_are
+    pub trial_read : trial_of t h (seat_steps members seats)
+        ≡ or_least (first_told step_end_of results_of) (least_of h (map (reply_at t h) (zip members results_of)))
+    trial_read = ap (trial_of t h) steps_are ∙ trial_by_results t h members results_of results_long
 
-    pub units_hold : map state_after (zip states steps_of) ≡ units
+    pub redo_read : redo_of (seat_steps members seats) ≡ first_told (redo_end_of t h) (zip members results_of)
+    redo_read = ap redo_of steps_are ∙ redo_by_results t h members results_of
+
+    pub units_hold : map state_after (zip states results_of) ≡ units
     units_hold =
-        ap (λ some. map state_after (zip some steps_of)) (sym states_are)
+        ap (λ some. map state_after (zip some results_of)) (sym states_are)
         ∙ units_after t h ports (zip members states) (zip units seats) are full_in
         ∙ units_are
 
@@ -271,7 +174,7 @@ begun_in t h ports (member ∷ members) (state ∷ states) (pair ∷ pairs) long
     slot =
         subst (λ made. SlotIs (step_at t h ports (member, state)) made state state) (sym begun.0.slot)
         (fresh_by (is_held member.factor t h)
-        (step_of member.component state (inputs_at ports member) (local_time member.factor t) (local_step member.factor t h)) state);
+        (component.step_of member.component state (inputs_at ports member) (local_time member.factor t) (local_step member.factor t h)) state);
   },
   begun_in t h ports members states pairs (omega (arith, long)) begun.1,
 )

@@ -66,7 +66,6 @@ pub record HasRoom (run : Composition) (inside : Inside) : Type 0 where
   pub known : length inside.known.items ≡ length (routes_of run).outputs
   pub seats : length inside.seats.items ≡ length run.members
   pub limits : length inside.limits.items ≡ length run.members
-  pub replies : length inside.replies.items ≡ length run.members
 
 -- The run is as `Stands` says. Its units are those of its plan, and have the words of the inputs where all ports have words.
 -- Its snapshots have ids that differ, and their words are states.

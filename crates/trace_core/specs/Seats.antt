@@ -1,5 +1,5 @@
 -- Seats: what a run keeps of each instance in addition to its unit, and what this means.
-use Rattle.std.specs.Prelude.{⊤, ◌≡◌, ◌≢◌, ◌<◌, ◌≤◌, ℕ, false, ℤ, List, [], ◌∷◌, map, zip, length, get_or, if◌then◌else◌, nat_lt, Option, Some, None, Result}
+use Rattle.std.specs.Prelude.{◌≡◌, ◌≢◌, ◌<◌, ℕ, false, ℤ, List, [], ◌∷◌, map, zip, length, get_or, if◌then◌else◌, Option, Some, None, Result}
 use Rattle.std.specs.Prelude.{Ok, Err}
 use Rattle.std.specs.List.{AllZip, AllByRecursion}
 use Rattle.std.specs.Option.{unwrap_or}
@@ -9,16 +9,15 @@ use Rattle.super_time.specs.LocalTime.{local_time, local_step}
 use Rattle.trace_core.specs.Runs.{Cell, Held, Empty, Filled}
 use Rattle.trace_core.specs.Slots.{is_empty}
 use Rattle.trace_core.specs.declared.seat.Seat.{Seat}
-use Rattle.trace_core.specs.declared.seat.Slot.{Slot}
-use Rattle.trace_core.specs.declared.seat.Slot.TheVariants as slot
+use Rattle.step_rule.specs.declared.steps.Slot.{Slot}
+use Rattle.step_rule.specs.declared.steps.Slot.TheVariants as slot
+use Rattle.step_rule.specs.declared.steps.Step.{Step}
 use Rattle.unit_tree.specs.Components.{Moved, max_of}
 use Rattle.unit_tree.specs.Compositions.{Member, Composition}
-use Rattle.unit_tree.specs.Negotiation.{is_held, step_at, reply_of, limit_told, proposal_of}
+use Rattle.unit_tree.specs.Negotiation.{is_held, step_at, limit_told, proposal_of}
 use Rattle.unit_tree.specs.Ports.{Ports, Standing}
-use Rattle.unit_tree.specs.Successor.{when, first_told, max_end_of}
+use Rattle.unit_tree.specs.Successor.{first_told, max_end_of}
 use Rattle.unit_tree.specs.declared.ending.Ending.{Ending}
-use Rattle.unit_tree.specs.declared.ending.Ending.TheVariants.{UnitFault, StepRefused}
-use Rattle.unit_tree.specs.declared.ending.Place.TheVariants as place
 use Rattle.std.specs.List.{filter_map}
 
 -- ---- Slots
@@ -83,52 +82,14 @@ pub record AreBegun (t h : ℕ) (members : List Member) (old new : List Seat) : 
   pub as_many : length new ≡ length old
   pub each : AllZip (λ member pair. IsBegun t h member.factor pair.0 pair.1) members (zip old new)
 
--- ---- Reading a step whose cells are full
+-- ---- The steps of seats
 
--- How the step of a slot ends the run: by its fault.
-abbrev pub end_in : ℕ → Slot → Option Ending
-end_in instance (slot.Failed fault) = Some (UnitFault instance place.Step fault)
-end_in instance _ = None
+-- The step of a seat, for its member.
+abbrev pub seat_step : Member × Seat → Step
+seat_step (member, seat) = record { factor = member.factor; asked = seat.step; slot = seat.slot }
 
--- How the step of a seat ends the run in a trial.
-abbrev pub slot_end : ℕ × Seat → Option Ending
-slot_end (instance, seat) = end_in instance seat.slot
-
--- How the step of a slot ends the run in a redo: by its fault, or where it accepted less than the whole step.
-abbrev pub redo_end_in : ℕ → ℕ → Slot → Option Ending
-redo_end_in instance step (slot.Took accepted) = when (nat_lt accepted step) (StepRefused instance step accepted)
-redo_end_in instance step other = end_in instance other
-
--- How the step of a seat ends the run in a redo.
-abbrev pub redo_slot_end : ℕ × Seat → Option Ending
-redo_slot_end (instance, seat) = redo_end_in instance seat.step seat.slot
-
--- The reply of a member to a step of h from t, by its slot.
-abbrev pub reply_in : ℕ → ℕ → ℕ → Slot → ℕ
-reply_in factor t h (slot.Took accepted) = reply_of factor t h accepted
-reply_in factor t h _ = h
-
--- The reply of a seat's member.
-abbrev pub slot_reply : ℕ → ℕ → Member × Seat → ℕ
-slot_reply t h (member, seat) = reply_in member.factor t h seat.slot
-
--- The reply of a member by its slot, or the fault of its step.
-abbrev pub replied : ℕ → ℕ → ℕ → Slot → Result ℕ Fault
-replied factor t h (slot.Failed fault) = Err fault
-replied factor t h other = Ok (reply_in factor t h other)
-
--- The seats have the clocks of their members.
-abbrev pub HaveClocks : ℕ → ℕ → List Member → List Seat → Type 0
-HaveClocks t h members seats = AllZip (λ member seat. HasClock t h member.factor seat) members seats
-
--- A step accepted no more than its length.
-abbrev pub IsWithin : ℕ → Slot → Type 0
-IsWithin step (slot.Took accepted) = accepted ≤ step
-IsWithin step _ = ⊤
-
--- No step of a seat accepted more than its length.
-abbrev pub AreWithin : List Seat → Type 0
-AreWithin seats = AllByRecursion (λ seat. IsWithin seat.step seat.slot) seats
+abbrev pub seat_steps : List Member → List Seat → List Step
+seat_steps members seats = map seat_step (zip members seats)
 
 -- ---- Limits
 

@@ -3,8 +3,8 @@ use Rattle.std.specs.Prelude.{ℕ, Bool, true, false, Result, Ok, Err}
 use Rattle.fixed_words.specs.declared.types.Fault.{Fault}
 use Rattle.trace_core.specs.Runs.{Cell}
 use Rattle.trace_core.specs.Runs as cell
-use Rattle.trace_core.specs.declared.seat.Slot.{Slot}
-use Rattle.trace_core.specs.declared.seat.Slot.TheVariants.{Held, Empty, Took, Failed}
+use Rattle.step_rule.specs.declared.steps.Slot.{Slot}
+use Rattle.step_rule.specs.declared.steps.Slot.TheVariants.{Held, Empty, Took, Failed}
 
 -- The slot of a step that accepted so many local ticks, or met a fault.
 abbrev pub slot_for : Result ℕ Fault → Slot

@@ -4,7 +4,7 @@ ghost use Rattle.trace_core.specs.Accepting.{accepted_of, with_step};
 ghost use Rattle.trace_core.specs.Slots.{slot_for};
 ghost use Rattle.unit_answers.specs.Answers.{step_told};
 
-use crate::seat::Slot;
+use step_rule::Slot;
 use trace_units::Units;
 use unit_answers::Answer;
 

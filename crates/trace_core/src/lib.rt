@@ -29,5 +29,5 @@ pub use laws::positions_fit_once;
 pub use opening_at::OpenFault;
 pub use phase::{Phase, Row, Settle};
 pub use run::Run;
-pub use seat::Slot;
+pub use step_rule::Slot;
 pub use trace_plan::{Plan, PlanFault};

@@ -2,10 +2,11 @@
 ghost use Rattle.std.specs.Prelude.{◌≡◌, map, IfOk};
 ghost use Rattle.trace_core.specs.Opening.{AreSeated};
 
-use crate::seat::{Seat, Slot};
+use crate::seat::Seat;
 use fixed_words::NoMemory;
 use snap_store::Snaps;
 use std::alloc::Global;
+use step_rule::Slot;
 use trace_units::Units;
 
 /// Returns a seat for each unit, with a snapshot of its state.

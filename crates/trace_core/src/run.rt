@@ -17,13 +17,14 @@ use crate::course::{Course, course_of};
 use crate::opening::{seats_of, states_of};
 use crate::phase::{Phase, Row, Settle};
 use crate::ports::{begin_phase, solve_ports};
-use crate::seat::{Seat, Slot, is_empty, slot_of};
+use crate::seat::{Seat, is_empty, slot_of};
 use crate::steps::{begin_all, commit_all, restore_all};
 use fixed_words::NoMemory;
 use snap_store::Snaps;
 use std::alloc::Global;
 use std::marker::Model;
 use std::sync::Arc;
+use step_rule::Slot;
 use super_time::limit;
 use trace_plan::Plan;
 use trace_units::Units;
@@ -60,7 +61,6 @@ pub struct Run {
     ports: Vec<i64>,
     known: Vec<bool>,
     limits: Vec<u128>,
-    replies: Vec<u64>,
     phase: Phase,
     point: Point,
     number: u64,
@@ -132,7 +132,6 @@ impl Run {
         let mut ports = vec![in alloc; 0; places]?;
         let mut known = vec![in alloc; false; places]?;
         let mut limits = vec![in alloc; 0; count]?;
-        let replies = vec![in alloc; 0; count]?;
         let fault = solve_ports(&plan, &mut units, &mut ports, &mut known);
         commit_all(&mut snaps, &mut seats, &units);
         let phase = begin_phase(
@@ -152,7 +151,6 @@ impl Run {
             ports,
             known,
             limits,
-            replies,
             phase,
             point,
             number,
@@ -349,13 +347,7 @@ impl Run {
     {
         // Called for its clauses, which state how long the states of the units are.
         let _ = self.units.count();
-        let course = course_of(
-            &self.plan,
-            &self.seats,
-            self.phase,
-            self.point,
-            &mut self.replies,
-        );
+        let course = course_of(&self.plan, &self.seats, self.phase, self.point);
         match course {
             Course::End(ending) => {
                 self.phase = Phase::Ended(ending);

@@ -3,19 +3,7 @@ ghost use Rattle.trace_core.specs.Slots.{slot_for, is_empty};
 
 use fixed_words::Fault;
 use snap_store::SnapId;
-
-/// The step of an instance in a phase. Where it was made, the unit of the instance has the state after it.
-#[derive(Clone, Copy, Debug, PartialEq, Eq)]
-pub enum Slot {
-    /// The instance is held.
-    Held,
-    /// The step was not made yet.
-    Empty,
-    /// The step was made, and accepted so many local ticks.
-    Took(u64),
-    /// The step met a fault, and the state stayed.
-    Failed(Fault),
-}
+use step_rule::Slot;
 
 /// Returns whether the step was not made yet.
 pub(crate) fn is_empty(slot: Slot) -> bool

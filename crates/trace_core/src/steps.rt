@@ -1,13 +1,10 @@
 //! What is done for all instances in turn.
-ghost use Rattle.std.specs.Prelude.{◌≡◌, ◌≤◌, ◌<◌, ◌+◌, ◌^◌, length, map, zip, IfNone};
-ghost use Rattle.trace_core.specs.Seats.{AreBegun, IsBegun, HasClock, HaveClocks, IsWithin, AreWithin, AreSaved, AreAsLong, HaveOwnIds, all_told, asked, saved, slot_end, redo_slot_end, replied, slot_reply};
-ghost use Rattle.unit_tree.specs.Successor.{first_told};
-ghost use Rattle.model_rules.specs.Limits.{instance_limit};
+ghost use Rattle.std.specs.Prelude.{◌≡◌, ◌≤◌, ◌<◌, ◌+◌, ◌^◌, length, map};
+ghost use Rattle.trace_core.specs.Seats.{AreBegun, IsBegun, AreSaved, AreAsLong, HaveOwnIds, all_told, asked, saved};
 
-use crate::seat::{Seat, Slot};
-use fixed_words::Fault;
+use crate::seat::Seat;
 use snap_store::{Snaps, copy_words};
-use step_rule::{propose, reply};
+use step_rule::{Slot, Step, Steps, propose};
 use super_time::{limit, local_step, local_time};
 use trace_plan::Plan;
 use trace_units::Units;
@@ -78,88 +75,32 @@ pub(crate) fn ask_limits(
     Ok(propose(stop, plan.longest(), t, &limits[..count]))
 }
 
-/// Returns the reply of a seat to a step of `h` from `t`, or the fault of its step.
-fn reply_by(seat: &Seat, factor: u64, t: u64, h: u64) -> Result<u64, Fault>
-    requires factor { 1 ≤ factor }
-    requires coarsest { factor ≤ 10 ^ 9 }
-    requires end { t + h ≤ 10 ^ 15 }
-    requires clock { HasClock t h factor seat.now }
-    requires within { IsWithin seat.now.step seat.now.slot }
-    ensures { result ≡ replied factor t h seat.now.slot }
-{
-    match seat.slot {
-        Slot::Took(accepted) if accepted == seat.step => Ok(h),
-        Slot::Took(accepted) => Ok(reply(factor, t, h, accepted)),
-        Slot::Failed(fault) => Err(fault),
-        Slot::Held | Slot::Empty => Ok(h),
-    }
+/// The steps of all seats of a run in a phase.
+#[derive(Clone, Copy)]
+pub(crate) struct SeatSteps<'a> {
+    pub(crate) plan: &'a Plan,
+    pub(crate) seats: &'a [Seat],
 }
 
-/// Reads the trial of a step of `h` from `t`, of which no cell is empty. Returns the end by the first fault; without one, writes all
-/// replies and returns `None`.
-pub(crate) fn read_trial(
-    plan: &Plan,
-    seats: &[Seat],
-    t: u64,
-    h: u64,
-    replies: &mut [u64],
-) -> Option<Ending>
-    requires clocks { HaveClocks t h plan.now.run.members seats.now }
-    requires within { AreWithin seats.now }
-    requires replies { length replies.old ≡ length seats.now }
-    requires end { t + h ≤ 10 ^ 15 }
-    ensures end { result ≡ first_told slot_end seats.now }
-    ensures replies { IfNone result (replies.new ≡ map (slot_reply t h) (zip plan.now.run.members seats.now)) }
-    ensures as_many { length replies.new ≡ length replies.old }
-{
-    for instance in 0..plan.instances() {
-        let seat = &seats[instance as usize];
-        match reply_by(seat, plan.factor(instance), t, h) {
-            Ok(reply) => replies[instance as usize] = reply,
-            Err(fault) => {
-                return Some(Ending::UnitFault {
-                    instance,
-                    place: Place::Step,
-                    fault,
-                });
-            }
-        }
-    }
-    None
-}
+impl Steps for SeatSteps<'_> {
+    ghost use Rattle.trace_core.specs.Seats.{seat_steps};
 
-/// Returns how the redo of an instance ends the run, if it does: by its fault, or because it accepted less than the whole step.
-fn redo_end(instance: u32, seat: &Seat) -> Option<Ending>
-    ensures { result ≡ redo_slot_end (instance, seat.now) }
-{
-    match seat.slot {
-        Slot::Took(accepted) if accepted < seat.step => Some(Ending::StepRefused {
-            instance,
+    ghost steps = { λ phase. seat_steps phase.plan.now.run.members phase.seats.now };
+
+    fn count(&self) -> usize {
+        (self.plan.instances() as usize).min(self.seats.len())
+    }
+
+    fn step(&self, instance: usize) -> Step {
+        // Called for its clauses, which state how many instances there may be.
+        let _ = self.plan.instances();
+        let seat = &self.seats[instance];
+        Step {
+            factor: self.plan.factor(instance as u32),
             asked: seat.step,
-            accepted,
-        }),
-        Slot::Failed(fault) => Some(Ending::UnitFault {
-            instance,
-            place: Place::Step,
-            fault,
-        }),
-        _ => None,
-    }
-}
-
-/// Reads a redo, of which no cell is empty. Returns the end by the first instance that faults or accepts less than the whole
-/// step, or `None` where there is none.
-pub(crate) fn read_redo(seats: &[Seat]) -> Option<Ending>
-    requires { length seats.now ≤ instance_limit }
-    ensures { result ≡ first_told redo_slot_end seats.now }
-{
-    for instance in 0..seats.len() {
-        let end = redo_end(instance as u32, &seats[instance]);
-        if end.is_some() {
-            return end;
+            slot: seat.slot,
         }
     }
-    None
 }
 
 /// Sets the states of all units to the committed states.

@@ -5,7 +5,7 @@ use Rattle.std.specs.Prelude.{slice_get}
 use Rattle.step_log.proofs.StepsMade.{step_told}
 use Rattle.super_time.specs.LocalTime.{local_step}
 use Rattle.super_time.specs.declared.point.Point.{Point}
-use Rattle.trace_core.specs.declared.seat.Slot.TheVariants as slot
+use Rattle.step_rule.specs.declared.steps.Slot.TheVariants as slot
 use Rattle.trace_plan.specs.Plans.{Planned}
 use Rattle.unit_tree.specs.Negotiation.{reply_of}
 use Rattle.step_log.proofs.Agreements.{first_found, none_found, not_shorter, pass_other, pass_unmade}
