@@ -1,26 +1,27 @@
 -- What is agreed on, found instance by instance from the slots of a run in its trial.
-use Rattle.std.proofs.Common.{◌≡◌, ◌∙◌, ℕ, ◌+◌, ◌<◌, ◌≤◌, ◌==◌, min, true, false, cond, List, [], ◌∷◌, length, map, zip, drop, get_or, Option, Some, None, Result, refl, ap, sym, subst, arith}
-use Rattle.std.proofs.lemmas.List.{drop_all, length-map}
-use Rattle.std.proofs.lemmas.Option.{get_or_from_slice_get, slice_get_within, slice_get-map}
-use Rattle.std.specs.Prelude.{slice_get, nat_lt}
-use Rattle.std.specs.Option.{option_map}
+use Rattle.std.proofs.Common.{◌≡◌, ◌∙◌, ℕ, ◌+◌, ◌<◌, ◌≤◌, ◌==◌, true, false, cond, List, [], ◌∷◌, length, zip, get_or, Option, Some, None, Result, refl, ap, sym, subst, arith}
+use Rattle.std.proofs.lemmas.List.{length-map}
+use Rattle.std.proofs.lemmas.Option.{get_or_from_slice_get, slice_get_within}
+use Rattle.std.specs.Prelude.{slice_get, nat_lt, IfSome}
 use Rattle.event_runs.proofs.TurnLaws.{replies_are}
-use Rattle.event_runs.specs.Offers.{reply_with}
 use Rattle.event_runs.specs.Readings.{pace_of}
 use Rattle.fixed_words.specs.declared.types.Fault.{Fault}
-use Rattle.run_laws.proofs.PositionLaws.{agreed_within}
+use Rattle.run_laws.proofs.PositionLaws.{agreed_is_at_most}
+use Rattle.step_rule.specs.Steps.{or_least}
+use Rattle.std.specs.Result.{result_ok}
 use Rattle.step_log.specs.Negotiated.{least_reply, shortener_of}
 use Rattle.step_log.specs.Steps.{first_given, shortened_to, unless}
 use Rattle.step_log.proofs.StepsMade.{StepHere, TellsStep}
-use Rattle.step_rule.proofs.LeastLaws.{least_next}
 use Rattle.trace_core.proofs.LoopLaws.{ToldFrom, told_all, told_none, told_some}
-use Rattle.trace_core.specs.Runs.{RunState, Stands}
+use Rattle.trace_core.specs.Runs.{IsPhase, RunState, Stands}
+use Rattle.trace_core.specs.declared.phase.Phase.TheVariants.{Trial}
 use Rattle.step_rule.specs.declared.steps.Slot.{Slot}
 use Rattle.step_rule.specs.declared.steps.Slot.TheVariants as slot
 use Rattle.unit_tree.specs.Components.{Moved}
 use Rattle.unit_tree.specs.Compositions.{Composition, Member}
-use Rattle.unit_tree.specs.Negotiation.{agreed_step, least_of, reply_of, step_at}
-use Rattle.unit_tree.specs.Successor.{standings, step_end_of, steps_by, when}
+use Rattle.unit_tree.specs.Negotiation.{agreed_step, reply_of, step_at}
+use Rattle.unit_tree.specs.Successor.{agreed, proposed, standings, steps_by, trial, trial_end, when}
+use Rattle.unit_tree.specs.declared.ending.Ending.{Ending}
 
 -- ---- Lists
 
@@ -29,14 +30,9 @@ zipped_few [] ys = omega arith
 zipped_few (x ∷ xs) [] = omega arith
 zipped_few (x ∷ xs) (y ∷ ys) = let rest = zipped_few xs ys in omega (arith, rest)
 
--- The least of numbers from one on that is at least the least of the others.
-least_at_most : (first : ℕ) (others : List ℕ) → least_of first others ≤ first
-least_at_most first [] = omega arith
-least_at_most first (other ∷ others) = omega arith
-
-agreed_from : (h : ℕ) (replies : List ℕ) → agreed_step h replies ≤ h → agreed_step h replies ≡ least_of h replies
-agreed_from h [] most = refl
-agreed_from h (reply ∷ replies) most = omega (arith, most)
+unless_ok : (end : Option Ending) (least : ℕ) → result_ok (or_least end least) ≡ unless end least
+unless_ok None least = refl
+unless_ok (Some ending) least = refl
 
 module _ (r : RunState) (h : ℕ) where
   abbrev run : Composition
@@ -51,23 +47,9 @@ module _ (r : RunState) (h : ℕ) where
   abbrev pairs : List (ℕ × Option (Result Moved Fault))
   pairs = zip (pace_of run).factors steps
 
-  abbrev replies : List ℕ
-  replies = map (reply_with t h) pairs
-
-  -- No step before an instance met a fault, and the least reply is that of those before it and of the others.
-  pub record AgreedSoFar (instance least : ℕ) : Type 0 where
-    pub no_end : ToldFrom step_end_of steps instance
-    pub so_far : agreed_step h replies ≡ least_of least (drop instance replies)
-    pub most : least ≤ h
-
   -- No instance before this one replies the agreed step.
   abbrev pub ShortenedFrom : ℕ → ℕ → Type 0
   ShortenedFrom agreed = ToldFrom (shortened_to t h agreed) pairs
-
-  agreed_most : Stands r → agreed_step h replies ≤ h
-  agreed_most stands =
-      subst (λ all. agreed_step h all ≤ h) (replies_are t h run.members steps)
-      (agreed_within t h r.stand.ports run.members r.stand.at.states stands.members stands.words)
 
   steps_few : length steps ≤ length run.members
   steps_few =
@@ -83,65 +65,25 @@ module _ (r : RunState) (h : ℕ) where
 
   -- ---- The least reply
 
-  pub none_agreed : Stands r → AgreedSoFar 0 h
-  none_agreed stands = record { no_end = refl; so_far = agreed_from h replies (agreed_most stands); most = omega arith }
+  module _ (stands : Stands r) (in_trial : r.phase ≡ Trial h) where
+    tried : h ≡ proposed run r.stand.at r.stand.ports
+    tried = (subst (λ phase. IsPhase run r.stand phase r.cells) in_trial stands.phase_is).is
 
-  read_step : (instance : ℕ) (step : Option (Result Moved Fault)) → slice_get steps instance ≡ Some step → step ≡ get_or steps instance step
-  read_step instance step is = sym (get_or_from_slice_get steps instance step step is)
+    -- The agreed step of the run is the least reply to its trial.
+    pub least_agreed : result_ok (or_least (trial_end run r.stand.at r.stand.ports) (agreed run r.stand.at r.stand.ports)) ≡ least_reply r h
+    least_agreed =
+        unless_ok (trial_end run r.stand.at r.stand.ports) (agreed run r.stand.at r.stand.ports)
+        ∙ ap (unless (trial_end run r.stand.at r.stand.ports))
+        (ap (agreed_step (proposed run r.stand.at r.stand.ports))
+        (replies_are t (proposed run r.stand.at r.stand.ports) run.members (trial run r.stand.at r.stand.ports)))
+        ∙ sym (ap (least_reply r) tried)
 
-  read_reply : (instance : ℕ) (pair : ℕ × Option (Result Moved Fault)) → slice_get pairs instance ≡ Some pair
-      → (instance < length replies) × (get_or replies instance 0 ≡ reply_with t h pair)
-  read_reply instance pair is =
-      let there = slice_get-map (reply_with t h) pairs instance ∙ ap (option_map (reply_with t h)) is in
-      (slice_get_within replies instance (reply_with t h pair) there, get_or_from_slice_get replies instance (reply_with t h pair) 0 there)
-
-  -- One more instance, with its reply.
-  more_agreed : (instance least reply factor : ℕ) (step : Option (Result Moved Fault)) → slice_get steps instance ≡ Some step
-      → slice_get pairs instance ≡ Some (factor, step) → step_end_of (instance, step) ≡ None → reply_with t h (factor, step) ≡ reply
-      → AgreedSoFar instance least → AgreedSoFar (instance + 1) (min least reply)
-  more_agreed instance least reply factor step is pair none replies_so so_far =
-      let read = read_reply instance (factor, step) pair in
-      let within = slice_get_within steps instance step is in
-      record {
-        no_end = told_none step_end_of steps instance step within (read_step instance step is) none so_far.no_end;
-        so_far =
-            so_far.so_far
-            ∙ least_next least instance replies read.0
-            ∙ ap (λ n. least_of (min least n) (drop (instance + 1) replies)) (read.1 ∙ replies_so);
-        most = let before = so_far.most in omega (arith, before);
-      }
-
-  -- A held instance replies the whole step.
-  pub held_agreed : (instance least : ℕ) → StepHere r h instance slot.Held → AgreedSoFar instance least → AgreedSoFar (instance + 1) least
-  held_agreed instance least here so_far =
-      subst (AgreedSoFar (instance + 1)) (let most = so_far.most in omega (arith, most))
-      (more_agreed instance least h here.member.factor here.step here.step_is here.pair_is (ap (λ step. step_end_of (instance, step)) here.tells)
-      (ap (λ step. reply_with t h (here.member.factor, step)) here.tells) so_far)
-
-  pub empty_agreed : (instance least : ℕ) → StepHere r h instance slot.Empty → AgreedSoFar instance least → AgreedSoFar (instance + 1) least
-  empty_agreed instance least here so_far = absurd here.tells
-
-  pub took_agreed : (instance least accepted reply : ℕ) (here : StepHere r h instance (slot.Took accepted))
-      → reply ≡ reply_of here.member.factor t h accepted → AgreedSoFar instance least → AgreedSoFar (instance + 1) (min least reply)
-  took_agreed instance least accepted reply here is so_far =
-      let step_is = here.tells.made in
-      more_agreed instance least reply here.member.factor here.step here.step_is here.pair_is (ap (λ step. step_end_of (instance, step)) step_is)
-      (ap (λ step. reply_with t h (here.member.factor, step)) step_is
-      ∙ ap (reply_of here.member.factor t h) here.tells.took ∙ sym is) so_far
-
-  -- A fault ends the run.
-  pub failed_agreed : (instance least : ℕ) (fault : Fault) → StepHere r h instance (slot.Failed fault) → AgreedSoFar instance least → None ≡ least_reply r h
-  failed_agreed instance least fault here so_far =
-      ap (λ end. unless end (agreed_step h replies))
-      (told_some step_end_of steps instance here.step _ (slice_get_within steps instance here.step here.step_is)
-      (read_step instance here.step here.step_is) (ap (λ step. step_end_of (instance, step)) here.tells) so_far.no_end)
-
-  pub all_agreed : (instance least : ℕ) → length run.members ≤ instance → AgreedSoFar instance least → Some least ≡ least_reply r h
-  all_agreed instance least past so_far =
-      let steps_past : length steps ≤ instance = let few = steps_few in omega (arith, few, past) in
-      let replies_past : length replies ≤ instance = let few = pairs_few in let long = length-map pairs (reply_with t h) in omega (arith, few, long, past) in
-      let least_is : agreed_step h replies ≡ least = so_far.so_far ∙ ap (least_of least) (drop_all instance replies replies_past) in
-      ap Some (sym least_is) ∙ ap (λ end. unless end (agreed_step h replies)) (told_all step_end_of steps instance steps_past so_far.no_end)
+    pub agreed_most : IfSome (result_ok (or_least (trial_end run r.stand.at r.stand.ports) (agreed run r.stand.at r.stand.ports))) (λ least. least ≤ h)
+    agreed_most = by (trial_end run r.stand.at r.stand.ports)
+      where
+        by : (end : Option Ending) → IfSome (result_ok (or_least end (agreed run r.stand.at r.stand.ports))) (λ least. least ≤ h)
+        by (Some ending) = tt
+        by None = subst (λ step. agreed run r.stand.at r.stand.ports ≤ step) (sym tried) (agreed_is_at_most run r.stand.at r.stand.ports stands.members stands.words)
 
   -- ---- The first that replies it
 

@@ -31,27 +31,14 @@ pub(crate) fn limiter(plan: &Plan, run: &mut Run, h: u64) -> Limiter
 }
 
 /// Returns the agreed step: the least reply to the trial of a step of `h`, or `None` where a step met a fault.
-fn agreed(plan: &Plan, run: &Run, h: u64) -> Option<u64>
-    requires own { run.now.plan ≡ plan.now }
+fn agreed(run: &Run, h: u64) -> Option<u64>
     requires stands { Stands run.now }
     requires trial { run.now.phase ≡ Trial h }
     requires full { AreCellsFull run.now.cells }
     ensures least { result ≡ least_reply run.now h }
     ensures most { IfSome result (λ agreed. agreed ≤ h) }
 {
-    let t = run.point().t;
-    let mut least = h;
-    for instance in 0..plan.instances() {
-        match run.slot(instance) {
-            Slot::Failed(_) => return None,
-            Slot::Took(accepted) => {
-                least = least.min(reply(plan.factor(instance), t, h, accepted));
-            }
-            Slot::Held => {}
-            Slot::Empty => {}
-        }
-    }
-    Some(least)
+    run.agreed(h).ok()
 }
 
 /// Returns the first instance whose reply is the agreed step, where this is less than `h`.
@@ -100,7 +87,7 @@ pub(crate) fn agreement(plan: &Plan, run: &Run, h: u64, limiter: Limiter) -> Opt
     requires limiter { limiter ≡ limiter_of run.now h }
     ensures { result ≡ step_at (pace_of run.now.plan.run) run.now.stand.at (offers_of run.now.plan.run run.now.stand.at run.now.stand.ports) }
 {
-    let agreed = agreed(plan, run, h)?;
+    let agreed = agreed(run, h)?;
     let point = run.point();
     Some(AgreedStep {
         point,

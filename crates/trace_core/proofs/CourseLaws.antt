@@ -131,7 +131,7 @@ module _ (run : Composition) (stand : Stand) (going : IsGoing run stand) where
         (ap (nat_lt (agreed run stand.at stand.ports)) (sym is)) is refl members words told
 
     -- What is read of the trial.
-    read_is : h ≡ proposed run stand.at stand.ports → AreMembers run → HasWords run stand.at
+    pub read_is : h ≡ proposed run stand.at stand.ports → AreMembers run → HasWords run stand.at
         → trial_of stand.at.point.t h (seat_steps run.members seats) ≡ or_least (trial_end run stand.at stand.ports) (agreed run stand.at stand.ports)
     read_is is members words =
         trial_read stand.at.point.t h stand.ports run.members stand.at.states units seats long are full

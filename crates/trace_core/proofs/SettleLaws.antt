@@ -2,7 +2,10 @@
 use Rattle.std.proofs.Common.{◌≡◌, ◌∙◌, ℕ, ◌+◌, ◌*◌, ◌<◌, ◌≤◌, ◌^◌, false, ℤ, List, [], ◌∷◌, length, refl, sym, ap, subst, arith}
 use Rattle.std.proofs.lemmas.Nat.{mul-le}
 use Rattle.port_solve.specs.Solved.{HaveStates}
+use Rattle.step_rule.specs.Steps.{or_least, trial_of}
 use Rattle.trace_core.specs.Courses.{course_in, IsReady}
+use Rattle.trace_core.specs.Seats.{seat_steps}
+use Rattle.unit_tree.specs.Successor.{trial_end}
 use Rattle.trace_core.specs.Keeping.{stand_of, cells_seen, run_state, IsRun}
 use Rattle.trace_core.specs.Runs.{AreCellsFull, IsPhase, is_ended, is_empty_cell, step_length}
 use Rattle.trace_core.specs.Slots.{is_empty}
@@ -16,7 +19,7 @@ use Rattle.trace_core.specs.declared.run.Run.TheInside.{Inside}
 use Rattle.trace_core.specs.declared.seat.Seat.{Seat}
 use Rattle.step_rule.specs.declared.steps.Slot.{Slot}
 use Rattle.step_rule.specs.declared.steps.Slot.TheVariants as slot
-use Rattle.trace_core.proofs.CourseLaws.{IsDue, LeadsFromTrial, LeadsFromRedo, trial_leads, redo_leads, leads_to}
+use Rattle.trace_core.proofs.CourseLaws.{read_is, IsDue, LeadsFromTrial, LeadsFromRedo, trial_leads, redo_leads, leads_to}
 use Rattle.trace_core.proofs.KeepLaws.{fit_as}
 use Rattle.trace_core.proofs.OpeningLaws.{states_long}
 use Rattle.trace_core.proofs.SlotLaws.{AreOfOneLength, are_asked}
@@ -153,3 +156,14 @@ module _ (r : Inside) (is : IsRun r) (have : HaveStates r.plan.value.run r.units
 
   pub led : is_ended r.phase ≡ false → AreCellsFull (cells_seen r.phase r.seats.items r.units.states) → Led (course_in run r.point r.phase r.seats.items)
   led going full = led_by r.phase refl going (full_by r.phase going full)
+
+  -- What is read of a trial.
+  pub trial_is : (h : ℕ) → r.phase ≡ Trial h → AreCellsFull (cells_seen r.phase r.seats.items r.units.states)
+      → trial_of r.point.t h (seat_steps run.members r.seats.items) ≡ or_least (trial_end run stand.at stand.ports) (agreed run stand.at stand.ports)
+  trial_is h same full =
+      let tried = phase_by (Trial h) same in
+      let seen = full_by (Trial h) refl (subst (λ phase. AreCellsFull (cells_seen phase r.seats.items r.units.states)) same full) in
+      read_is run stand tried.going h r.units.states r.seats.items long (fit_as r is (Trial h) same) seen tried.is is.stands.members is.stands.words
+
+  pub trial_ready : (h : ℕ) → r.phase ≡ Trial h → IsReady run r.point.t (Trial h) r.seats.items
+  trial_ready h same = ready_by (Trial h) same

@@ -9,7 +9,9 @@ ghost use Rattle.trace_core.specs.Slots.{slot_seen};
 ghost use Rattle.trace_core.specs.declared.phase.Settle.TheVariants as settled;
 ghost use Rattle.unit_tree.specs.Compositions.{AreMembers, run_of};
 ghost use Rattle.unit_tree.specs.Negotiation.{all_inputs, limit_at};
-ghost use Rattle.unit_tree.specs.Successor.{first_position, standings};
+ghost use Rattle.step_rule.specs.Steps.{or_least};
+ghost use Rattle.trace_core.specs.declared.phase.Phase.TheVariants.{Trial};
+ghost use Rattle.unit_tree.specs.Successor.{agreed, first_position, standings, trial_end};
 ghost use Rattle.unit_tree.specs.Trace.{row_at, HasWords, IsInBounds, IsInRows};
 
 use crate::accepting::take_step;
@@ -18,19 +20,19 @@ use crate::opening::{seats_of, states_of};
 use crate::phase::{Phase, Row, Settle};
 use crate::ports::{begin_phase, solve_ports};
 use crate::seat::{Seat, is_empty, slot_of};
-use crate::steps::{begin_all, commit_all, restore_all};
+use crate::steps::{SeatSteps, begin_all, commit_all, restore_all};
 use fixed_words::NoMemory;
 use snap_store::Snaps;
 use std::alloc::Global;
 use std::marker::Model;
 use std::sync::Arc;
-use step_rule::Slot;
+use step_rule::{Slot, read_trial};
 use super_time::limit;
 use trace_plan::Plan;
 use trace_units::Units;
 use unit_answers::{Proven, same_key};
 use unit_exec::Want;
-use unit_tree::Point;
+use unit_tree::{Ending, Point};
 
 /// The position at which a run was opened. Only contracts use it: the invariant refers to it.
 #[derive(Drop)]
@@ -335,6 +337,24 @@ impl Run {
         let _ = want.image.code().facts();
         self.fill(instance, answer);
         true
+    }
+
+    /// Returns the agreed step of the trial of a step of `h`, all of whose steps are made, or how the first fault of a step ends the
+    /// run.
+    pub fn agreed(&self, h: u64) -> Result<u64, Ending>
+        requires trial { self.now.phase ≡ Trial h }
+        requires full { AreCellsFull self.now.cells }
+        ensures { result ≡ or_least (trial_end self.now.plan.run self.now.stand.at self.now.stand.ports)
+            (agreed self.now.plan.run self.now.stand.at self.now.stand.ports) }
+    {
+        // Called for its clauses, which state how many seats there may be and how long the states of the units are.
+        let _ = self.plan.instances();
+        let _ = self.units.count();
+        let steps = SeatSteps {
+            plan: &self.plan,
+            seats: &self.seats,
+        };
+        read_trial(&steps, self.point.t, h)
     }
 
     /// Goes on when all steps of the phase are made: to a redo where the trial requires one, and otherwise to the next point, or
