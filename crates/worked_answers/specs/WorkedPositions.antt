@@ -136,6 +136,20 @@ position_saved = record {
   rest = 44;
 }
 
+-- The text with these lines saves a position that fits the system.
+pub record FitsAt (lines : List (List ℕ)) (at : Position) : Type 0 where
+  pub saved : Saved
+  pub saves : IsSaved (saved_with lines) saved
+  pub fits : FitsSystem latched saved at
+
+-- A position that isn't in the trace. Its point is at the stop, and its index, its number and the word of Int8 are the greatest ones.
+abbrev pub greatest_position : Position
+greatest_position = record {
+  point = record { t = 4; n = 2 };
+  states = (pos 2 ∷ []) ∷ (pos 127 ∷ pos 0 ∷ []) ∷ [];
+  number = 4;
+}
+
 -- ---- Rule 33: texts whose position doesn't fit
 
 -- The text with these lines saves a position, but no position fits what is saved and the system.
@@ -150,10 +164,12 @@ pub record SavedPositionsAreWorked : Type 0 where
   pub position : IsEventPositionOf latched 2 latched_position
   pub rest : IsEventRest latched latched_position later_rows (record { t = 4; n = 0 }) Completed
   pub lines : flat_map (event_line latched) later_rows ≡ text_of (codes "2,0,,10" ∷ codes "3,0,30,10" ∷ codes "4,0,,30" ∷ [])
-  -- The saved text of the position has these lines. This position fits what they save.
+  -- The saved text of the position has these lines. The position fits what they save.
   pub text : saved_text latched latched_position ≡ saved_with position_lines
   pub saves : IsSaved (saved_with position_lines) position_saved
   pub fits : FitsSystem latched position_saved latched_position
+  -- So does a position at all bounds.
+  pub greatest : FitsAt (codes "saved 1" ∷ codes "row 4" ∷ codes "at 4 2" ∷ codes "state p 2" ∷ codes "state c 127 0" ∷ []) greatest_position
   -- The instances are in another order; one is missing.
   pub other_order : FitsNothing (codes "saved 1" ∷ codes "row 2" ∷ codes "at 2 0" ∷ codes "state c 10 1" ∷ codes "state p 2" ∷ [])
   pub one_instance : FitsNothing (codes "saved 1" ∷ codes "row 2" ∷ codes "at 2 0" ∷ codes "state p 2" ∷ [])

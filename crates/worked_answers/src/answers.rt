@@ -60,8 +60,8 @@ pub fn saved_texts_are_worked()
     ensures { SavedTextsAreWorked }
 {}
 
-/// A law: a saved position of a system with events, the rest of its trace from there, and saved texts whose position doesn't fit, are
-/// those that were worked out by hand.
+/// A law: a saved position of a system with events and the rest of the trace from there are those that were worked out by hand.
+/// Saved texts have a position that fits the system exactly where that was worked out too.
 pub fn saved_positions_are_worked()
     ensures { SavedPositionsAreWorked }
 {}

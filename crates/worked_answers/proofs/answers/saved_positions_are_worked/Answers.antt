@@ -36,12 +36,12 @@ both = pulse (pos 2 ∷ []) ∷ latch (pos 10 ∷ pos 1 ∷ []) ∷ []
 abbrev tick : ℕ → ℕ → Point
 tick t n = record { t = t; n = n }
 
-small : (row t n : ℕ) → row + t + n ≤ 9 → AreNumbers row (tick t n)
+small : (row t n : ℕ) → row + t + n ≤ 10 → AreNumbers row (tick t n)
 small row t n sum =
-    let nine = leb-true 9 number_limit refl in
+    let ten = leb-true 10 number_limit refl in
     record {
-      row_within = omega (arith, sum, nine);
-      point_within = record { ticks = omega (arith, sum, nine); steps = omega (arith, sum, nine) };
+      row_within = omega (arith, sum, ten);
+      point_within = record { ticks = omega (arith, sum, ten); steps = omega (arith, sum, ten) };
     }
 
 position_saves : IsSaved (saved_with position_lines) position_saved
@@ -61,6 +61,10 @@ position_fits = record {
   zeros = omega arith;
   rows = omega arith;
 }
+
+-- The position with the greatest numbers and the greatest word.
+abbrev greatest_states : List NamedState
+greatest_states = pulse (pos 2 ∷ []) ∷ latch (pos 127 ∷ pos 0 ∷ []) ∷ []
 
 -- ---- The trace
 
@@ -109,6 +113,21 @@ returns c = record {
   text = simp (line_lemmas, expr_lemmas) refl;
   saves = position_saves;
   fits = position_fits;
+  greatest = record {
+    saved = saved_from 4 (tick 4 2) greatest_states;
+    saves = lines_save 4 (tick 4 2) greatest_states (small 4 4 2 (omega arith)) (search rules) (search rules);
+    fits = record {
+      number = refl;
+      there = refl;
+      states = refl;
+      names_are = refl;
+      counts_are = refl;
+      has_words = ((refl, _), ((refl, (refl, _)), _));
+      stop = omega arith;
+      zeros = omega arith;
+      rows = omega arith;
+    };
+  };
   other_order = record {
     saved = saved_from 2 (tick 2 0) (latch (pos 10 ∷ pos 1 ∷ []) ∷ pulse (pos 2 ∷ []) ∷ []);
     saves = lines_save 2 (tick 2 0) (latch (pos 10 ∷ pos 1 ∷ []) ∷ pulse (pos 2 ∷ []) ∷ []) (small 2 2 0 (omega arith)) (search rules) (search rules);
