@@ -14,6 +14,7 @@ use Rattle.unit_tree.specs.Successor.{Position}
 use Rattle.unit_tree.specs.Trace.{AreWordsOf}
 use Rattle.unit_tree.specs.declared.system.System.{System}
 use Rattle.cosim_answers.specs.Accepted.{planned}
+use Rattle.cosim_answers.specs.Laws.{SavedPositionsAreRead}
 use Rattle.cosim_answers.specs.SavedAnswers.{FitsSystem}
 use Rattle.cosim_answers.proofs.TraceLaws.{IsWhole}
 
@@ -84,3 +85,8 @@ module _ (system : System) (whole : IsWhole system) (saved : Saved) (at : Positi
     names_are = fits.names_are;
     counts_are = fits.counts_are;
   }
+
+pub saved_positions_are_read : SavedPositionsAreRead
+saved_positions_are_read system ranged well_formed ordered saved at =
+    let whole : IsWhole system = record { ranged = ranged; well_formed = well_formed; ordered = ordered } in
+    (fits_plain system whole saved at, fits_read system whole saved at)

@@ -1,8 +1,10 @@
 -- A run that is saved and resumed writes the same as the run.
-use Rattle.std.proofs.Common.{◌≡◌, ℕ, ◌+◌, ◌≤◌, List, ◌∷◌, ◌++◌, length, refl, sym, ap, subst, ◌∙◌, inl, inr, arith}
+use Rattle.std.proofs.Common.{◌≡◌, ℕ, ◌+◌, ◌≤◌, List, ◌∷◌, ◌++◌, length, map, take, refl, sym, ap, subst, ◌∙◌, inl, inr, arith}
+use Rattle.std.specs.List.{flat_map}
+use Rattle.std.proofs.Math.Seq.{take-append_seam}
 use Rattle.std.proofs.Transfers.{drop-appended}
 use Rattle.std.proofs.lemmas.List.Concat.{flat_map-append}
-use Rattle.std.proofs.lemmas.List.{length-append}
+use Rattle.std.proofs.lemmas.List.{length-append, length-map, map-append, take-map}
 use Rattle.text_accept.specs.Accepting.{IsAcceptedAs}
 use Rattle.text_accept.proofs.Acceptance.{judged_once}
 use Rattle.text_laws.proofs.ReadBack.{read_back}
@@ -20,27 +22,30 @@ use Rattle.save_point.proofs.PositionsOnce.{fits_one_or_none}
 use Rattle.save_point.proofs.RowsBefore.{rows_before}
 use Rattle.save_point.proofs.SavedOnce.{saves_or_breaks}
 use Rattle.save_point.proofs.SavedTraces.{can_be_resumed}
-use Rattle.event_runs.specs.Readings.{read_end, read_rows}
-use Rattle.trace_rows.specs.Lines.{header_of, lines_of}
-use Rattle.trace_rows.proofs.RowLaws.{text_is as header_and_lines}
+use Rattle.event_csv.specs.EventText.{event_header, event_line}
+use Rattle.event_runs.specs.EventRests.{IsEventPositionOf, IsReadFrom}
+use Rattle.event_runs.specs.EventRuns.{event_members_of, event_run_of}
+use Rattle.event_runs.specs.EventTrace.{EventRow, EventStand, event_rows_of}
+use Rattle.event_runs.specs.Readings.{read_end, read_row, read_rows, read_stand}
+use Rattle.event_runs.proofs.RestLaws.{rest_fits, stands_read}
 use Rattle.unit_tree.specs.Canonical.{canonical_text}
 use Rattle.unit_tree.specs.Compositions.{run_of}
 use Rattle.unit_tree.specs.Plain.{plain_form}
 use Rattle.unit_tree.specs.SourceLines.{in_canonical_order, numbers_of}
 use Rattle.unit_tree.specs.Lines.{source_lines}
 use Rattle.unit_tree.specs.Successor.{Position}
-use Rattle.unit_tree.specs.Trace.{IsPositionOf, IsTrace, IsTraceOf, Row, rows_of}
+use Rattle.unit_tree.specs.Trace.{IsPositionOf, IsTrace, IsTraceOf, Row, Stand, rows_of}
 use Rattle.unit_tree.specs.declared.system.System.{System}
 use Rattle.cosim_call.specs.Answers.{Answer}
-use Rattle.cosim_answers.specs.Accepted.{OnAccepted, TellsTrace, planned, run_answer, traced_notes}
+use Rattle.cosim_answers.specs.Accepted.{OnAccepted, TellsTrace, planned, run_answer, traced_notes, traced_text}
 use Rattle.cosim_answers.specs.Answer.{Answers, report_lines}
 use Rattle.cosim_answers.specs.Laws.{SavedRunsGoOn}
 use Rattle.cosim_answers.specs.SavedAnswers.{AnswersResume, AnswersSave, FitsSystem, SavesIn, TellsRest, text_behind}
 use Rattle.cosim_answers.proofs.CommandLaws.{traces_same}
 use Rattle.cosim_answers.proofs.OutputNames.{ends_alike, same_status}
-use Rattle.cosim_answers.proofs.RunLaws.{text_is, trace_told}
+use Rattle.cosim_answers.proofs.RunLaws.{trace_told}
 use Rattle.cosim_answers.proofs.PlainFits.{fits_plain, fits_read}
-use Rattle.cosim_answers.proofs.PlainRests.{TellsPlainRest, plain_position}
+use Rattle.cosim_answers.proofs.PlainRests.{TellsPlainRest, lines_read, plain_position}
 use Rattle.cosim_answers.proofs.SavedLaws.{as_plain, own_rest_there, resume_lawful}
 use Rattle.cosim_answers.proofs.TraceLaws.{IsWhole, whole_of}
 
@@ -120,34 +125,82 @@ module _ (row : ℕ) (text : List ℕ) (saved resumed run : Answer) (of : Answer
       let order = runs_have_orders system whole.ranged whole.well_formed whole.ordered in
       rest_ends_trace (run_of system) order.0 row at tells.rows tells.last tells.ending (system_has_members (plain_form system)) order.1 position tells.rest
 
-  abbrev before : List Row
-  before = rows_of (run_of system) position.before
+  -- The stands of the trace, and its rows before the position.
+  abbrev stands : List Stand
+  stands = position.before ++ (position.here ∷ position.later)
 
-  trace : IsTraceOf system (before ++ tells.rows) tells.last tells.ending
+  abbrev plain_before : List Row
+  plain_before = rows_of (run_of system) position.before
+
+  trace : IsTraceOf system (plain_before ++ tells.rows) tells.last tells.ending
   trace = record {
-    stands = position.before ++ (position.here ∷ position.later);
-    trace = subst (IsTrace (run_of system) (position.before ++ (position.here ∷ position.later))) ends.ending_is position.trace;
+    stands = stands;
+    trace = subst (IsTrace (run_of system) stands) ends.ending_is position.trace;
     rows_are = sym ends.rows_are;
     last_is = sym ends.last_is;
   }
 
   -- The answer of the run for this trace.
-  run_is : run ≡ run_answer system (read_rows system (before ++ tells.rows)) tells.last (read_end system tells.ending)
+  run_is : run ≡ run_answer system (read_rows system (plain_before ++ tells.rows)) tells.last (read_end system tells.ending)
   run_is =
-      traces_same system whole run (run_answer system (read_rows system (before ++ tells.rows)) tells.last (read_end system tells.ending))
+      traces_same system whole run (run_answer system (read_rows system (plain_before ++ tells.rows)) tells.last (read_end system tells.ending))
       (subst (λ s. TellsTrace s run) ((judged_once text).one_system runs.system system runs.lines of.lines runs.accepted of.accepted).0 runs.is)
-      (trace_told system whole (before ++ tells.rows) tells.last tells.ending trace)
+      (trace_told system whole (plain_before ++ tells.rows) tells.last tells.ending trace)
 
-  lines_are : lines_of system (before ++ tells.rows) ≡ lines_of system before ++ lines_of system tells.rows
-  unfolding lines_of
-  lines_are = flat_map-append _ before tells.rows
+  -- ---- The rows of the system as it is written
 
-  out_is : run.out ≡ header_of system ++ (lines_of system before ++ resumed.out)
-  out_is =
-      ap (λ (a : Answer). a.out) run_is
-      ∙ sym (text_is system whole (before ++ tells.rows) tells.last tells.ending trace)
-      ∙ sym (header_and_lines system (before ++ tells.rows))
-      ∙ ap (λ lines. header_of system ++ lines) (lines_are ∙ ap (λ (a : Answer). lines_of system before ++ a.out) (sym tells.is))
+  abbrev own : IsEventPositionOf system row at
+  own = of.is.is_position
+
+  abbrev before : List EventRow
+  before = event_rows_of (event_run_of system) own.before
+
+  abbrev read : Stand → EventStand
+  read = read_stand (event_members_of system)
+
+  stands_told : IsReadFrom system stands position.ending
+  stands_told = stands_read system whole.ranged whole.well_formed whole.ordered stands position.ending position.trace
+
+  -- The first stands, as many as the number of the position.
+  own_first : own.before ≡ take row (own.before ++ (own.here ∷ own.later))
+  own_first =
+      sym (take-append_seam own.before (own.here ∷ own.later)) ∙ ap (λ count. take count (own.before ++ (own.here ∷ own.later))) (sym own.place)
+
+  plain_first : take row stands ≡ position.before
+  plain_first = ap (λ count. take count stands) position.place ∙ take-append_seam position.before (position.here ∷ position.later)
+
+  stands_are : own.before ≡ map read (take row stands)
+  stands_are =
+      own_first
+      ∙ ap (take row) (stands_told.is_only (own.before ++ (own.here ∷ own.later)) own.ending own.trace).0
+      ∙ take-map read row stands
+
+  before_read : before ≡ read_rows system plain_before
+  before_read =
+      ap (event_rows_of (event_run_of system)) stands_are
+      ∙ stands_told.rows row
+      ∙ ap (λ first. read_rows system (rows_of (run_of system) first)) plain_first
+
+  many : length before ≡ row
+  many =
+      ap length before_read ∙ length-map plain_before (read_row (event_members_of system)) ∙ rows_before (run_of system) row at position
+
+  -- What `resume` prints.
+  rest_shown : flat_map (event_line system) (read_rows system tells.rows) ≡ resumed.out
+  rest_shown =
+      sym (lines_read system whole tells.rows (rest_fits system whole.ranged whole.well_formed whole.ordered at tells.rows tells.last tells.ending fits.position.has_words tells.rest))
+      ∙ ap (λ (a : Answer). a.out) (sym tells.is)
+
+  lines_are : flat_map (event_line system) (read_rows system (plain_before ++ tells.rows)) ≡ flat_map (event_line system) before ++ resumed.out
+  lines_are =
+      ap (flat_map (event_line system)) (map-append (read_row (event_members_of system)) plain_before tells.rows)
+      ∙ flat_map-append (event_line system) (read_rows system plain_before) (read_rows system tells.rows)
+      ∙ ap (λ rows. flat_map (event_line system) rows ++ flat_map (event_line system) (read_rows system tells.rows)) (sym before_read)
+      ∙ ap (λ lines. flat_map (event_line system) before ++ lines) rest_shown
+
+  out_is : run.out ≡ event_header system ++ (flat_map (event_line system) before ++ resumed.out)
+  unfolding traced_text
+  out_is = ap (λ (a : Answer). a.out) run_is ∙ ap (λ lines. event_header system ++ lines) lines_are
 
   notes_are : run.notes ≡ resumed.notes
   notes_are =
@@ -157,9 +210,6 @@ module _ (row : ℕ) (text : List ℕ) (saved resumed run : Answer) (of : Answer
 
   status_is : run.status ≡ resumed.status
   status_is = ap (λ (a : Answer). a.status) run_is ∙ sym (same_status system tells.ending) ∙ ap (λ (a : Answer). a.status) (sym tells.is)
-
-  many : length before ≡ row
-  many = rows_before (run_of system) row at position
 
 -- ---- What `save` writes is not refused
 
@@ -231,6 +281,7 @@ saved_runs_go_on row asked text saved resumed run of on (inr runs) =
     let on' = serves row text saved of resumed on in
     record {
       before = before row text saved resumed trace of on' told;
+      before_are = refl;
       as_many = many row text saved resumed trace of on' told;
       out = ap (λ (a : Answer). a.out) runs.is.is ∙ out_is row text saved resumed trace of on' told;
       notes = inr (

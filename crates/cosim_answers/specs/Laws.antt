@@ -1,5 +1,6 @@
 -- Laws of answers.
-use Rattle.std.specs.Prelude.{◌≡◌, ℕ, true, ⊤, List, ◌++◌, length, ◌⊎◌, Option, Some}
+use Rattle.std.specs.Prelude.{◌≡◌, ◌↔◌, ℕ, true, ⊤, List, ◌++◌, length, ◌⊎◌, Option, Some}
+use Rattle.std.specs.List.{flat_map}
 use Rattle.cosim_call.specs.Answers.{Answer, IsEndOfWork}
 use Rattle.cosim_call.specs.declared.status.Status.TheVariants as status
 use Rattle.cosim_answers.specs.Answer.{Answers, AnswersRefusal, IsAnswer, ServedBy, report_lines}
@@ -7,9 +8,17 @@ use Rattle.command_line.specs.Commands.{command_of}
 use Rattle.command_line.specs.declared.commands.Command.{Command}
 use Rattle.command_line.specs.declared.commands.Command.TheVariants.{Resume, Run}
 use Rattle.command_line.specs.declared.running.Running.{Running}
-use Rattle.cosim_answers.specs.SavedAnswers.{AnswersSave}
-use Rattle.trace_rows.specs.Lines.{header_of, lines_of}
-use Rattle.unit_tree.specs.Trace.{Row}
+use Rattle.cosim_answers.specs.Accepted.{planned}
+use Rattle.cosim_answers.specs.SavedAnswers.{AnswersSave, FitsSystem}
+use Rattle.event_csv.specs.EventText.{event_header, event_line}
+use Rattle.event_runs.specs.EventRuns.{event_run_of}
+use Rattle.event_runs.specs.EventTrace.{EventRow, EventStand, event_rows_of}
+use Rattle.save_point.specs.Saving.{FitsSaved}
+use Rattle.save_point.specs.declared.reading.Saved.{Saved}
+use Rattle.unit_tree.specs.Orders.{HasNoCycle}
+use Rattle.unit_tree.specs.Printable.{IsRanged}
+use Rattle.unit_tree.specs.Successor.{Position}
+use Rattle.unit_tree.specs.WellFormed.{IsWellFormed}
 use Rattle.unit_tree.specs.declared.system.System.{System}
 use Rattle.trace_rows.specs.declared.report.Report.{Report}
 
@@ -63,12 +72,16 @@ EndsAreServed =
     (words : List (List ℕ)) (text : List ℕ) (answer : Answer) → IsAnswer words text answer → IsEndOfWork answer.status
     → (command : Command) × (Some command ≡ command_of words) × ServedBy command text answer
 
--- What `run` prints is the header, as many rows as the number of the saved position, and then exactly what `resume` prints. The status
--- is the same, and so are the notes, except for the line of a report.
-pub record EndsRun (row : ℕ) (asked : Running) (system : System) (resumed run : Answer) : Type 0 where
-  pub before : List Row
+-- ---- Saved runs
+
+-- What `run` prints is the header, the lines of the rows before the saved position, and then exactly what `resume` prints. These are
+-- the rows of the earlier stands of the system's trace, and as many as the number of the position. The status is the same, and so are
+-- the notes, except for the line of a report.
+pub record EndsRun (row : ℕ) (asked : Running) (system : System) (earlier : List EventStand) (resumed run : Answer) : Type 0 where
+  pub before : List EventRow
+  pub before_are : before ≡ event_rows_of (event_run_of system) earlier
   pub as_many : length before ≡ row
-  pub out : run.out ≡ header_of system ++ (lines_of system before ++ resumed.out)
+  pub out : run.out ≡ event_header system ++ (flat_map (event_line system) before ++ resumed.out)
   pub notes : IsNoted asked resumed.notes run
   pub status : run.status ≡ resumed.status
 
@@ -76,4 +89,10 @@ pub record EndsRun (row : ℕ) (asked : Running) (system : System) (resumed run 
 abbrev pub SavedRunsGoOn : Type 0
 SavedRunsGoOn =
     (row : ℕ) (asked : Running) (text : List ℕ) (saved resumed run : Answer) (of : AnswersSave row text saved)
-    → Answers Resume saved.out resumed → Answers (Run asked) text run → EndsRun row asked of.system resumed run
+    → Answers Resume saved.out resumed → Answers (Run asked) text run → EndsRun row asked of.system of.is.is_position.before resumed run
+
+-- A saved position fits a system as it is written exactly where it fits the run of its plain form.
+abbrev pub SavedPositionsAreRead : Type 0
+SavedPositionsAreRead =
+    (system : System) → IsRanged system → IsWellFormed system → HasNoCycle system
+    → (saved : Saved) (at : Position) → FitsSystem system saved at ↔ FitsSaved (planned system) saved at

@@ -2,7 +2,7 @@
 --
 --   rule 31   the trace has no position with the number that is asked for
 --   rule 32   the text saves no position
---   rule 33   a run of the system can be at no such position
+--   rule 33   the saved position doesn't fit the system
 use Rattle.std.specs.Prelude.{◌≡◌, ◌⊎◌, ℕ, ◌+◌, ◌<◌, ◌≤◌, List, drop, length, map}
 use Rattle.std.specs.List.{AllZip, flat_map}
 use Rattle.event_csv.specs.EventText.{event_line}
@@ -61,8 +61,8 @@ pub record SavesIn (text : List ℕ) (saved : Saved) (system : System) : Type 0 
 abbrev pub HasStateWords : EventRun → Position → Type 0
 HasStateWords run at = AllZip (λ one state. AreWordsOf one.member.component.unit.states state) run.members at.states
 
--- The position is the saved one, and a run of the system may be at it. The names are those of the instances in their order. Each has as
--- many words as its unit has states, each word of its type. The position is within the stop and both budgets.
+-- The position is the saved one, and fits the system. The names are those of the instances in their order. Each instance has as many
+-- words as its unit has states, and each word is one of the state's type. The position is within the stop and both budgets.
 pub record FitsSystem (system : System) (saved : Saved) (at : Position) : Type 0 where
   pub number : at.number ≡ saved.row
   pub there : at.point ≡ saved.point
@@ -114,7 +114,7 @@ pub record RefusesBehind (text : List ℕ) (line rule : ℕ) : Type 0 where
   pub refused : IsRefusedAt (text_behind text saved) behind rule
   pub at : line ≡ lines_before saved + behind
 
--- A run of the system can be at no position that fits what is saved: rule 33, at line 1.
+-- No position fits what is saved and the system: rule 33, at line 1.
 pub record LacksMatch (text : List ℕ) (line rule : ℕ) : Type 0 where
   pub saved : Saved
   pub system : System

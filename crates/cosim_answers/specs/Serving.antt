@@ -121,7 +121,7 @@ IsRefusedBehind text saved (stopped.Refused line rule) =
 IsRefusedBehind text saved stopped.NoMemory = ⊤
 IsRefusedBehind text saved _ = ⊥
 
--- A run was opened at the saved position, or can be at no such position; or memory was refused.
+-- A run was opened at the saved position, or no position fits what is saved, or memory was refused.
 abbrev pub OpensSaved : Planned → Saved → Result RunState Stopped → Type 0
 OpensSaved plan saved (Ok run) = IsOpenedBy plan saved run × Stands run
 OpensSaved plan saved (Err (stopped.Refused line rule)) = (line ≡ 1) × (rule ≡ 33) × FitsNone plan saved

@@ -1,6 +1,6 @@
 //! Laws of answers.
 ghost use Rattle.cosim_answers.specs.Pipelines.{FlatRunsAreNested, GeneratedRunsHaveFigures, NodesPrintAPrefix, PrintsRunAlike, RunsAreVerified, TablesArePrinted, UpgradesRunAlike};
-ghost use Rattle.cosim_answers.specs.Laws.{AnswersAgree, EndsAreServed, EveryCallIsAnswered, NoCallIsAnsweredTwice, NotesAgree, RefusalsAreOfRules, RunsAgree, SavedRunsGoOn};
+ghost use Rattle.cosim_answers.specs.Laws.{AnswersAgree, EndsAreServed, EveryCallIsAnswered, NoCallIsAnsweredTwice, NotesAgree, RefusalsAreOfRules, RunsAgree, SavedPositionsAreRead, SavedRunsGoOn};
 
 /// A law: for each list of words and each input there is an answer. All answers write the same bytes and have the same status. There is
 /// only one, except where workers are reported.
@@ -26,9 +26,15 @@ pub fn statuses_have_causes()
 
 /// A law: what `run` prints of a text is its header, the rows before a position that `save` saves, and then exactly what `resume`
 /// prints of the saved text. The status is the same, and so are the notes except for the line of a report. `resume` refuses nothing
-/// that `save` printed.
+/// that `save` printed. The rows are those of the system as it is written, with or without event ports.
 pub fn saved_runs_go_on()
     ensures { SavedRunsGoOn }
+{}
+
+/// A law: a saved position fits a system in range that is well-formed and has no cycle exactly where it fits its plain form, which is
+/// what is run.
+pub fn saved_positions_are_read()
+    ensures { SavedPositionsAreRead }
 {}
 
 /// A law of pipelines, of what one command prints for the output of another one:

@@ -1,3 +1,5 @@
 mod EventMeaning
+mod FirstLines
 mod ManyInstances
 mod NeedlessZeros
+mod SavedLines

@@ -3,6 +3,7 @@ pub mod WorkedEventTexts
 pub mod WorkedGroups
 pub mod WorkedNests
 pub mod WorkedParts
+pub mod WorkedPositions
 pub mod WorkedSaved
 pub mod WorkedTables
 pub mod WorkedVerdicts

@@ -4,6 +4,7 @@ ghost use Rattle.worked_answers.specs.WorkedEventRuns.{EventRunsAreWorked};
 ghost use Rattle.worked_answers.specs.WorkedGroups.{GroupRulesAreWorked};
 ghost use Rattle.worked_answers.specs.WorkedNests.{NestsAreFlat};
 ghost use Rattle.worked_answers.specs.WorkedParts.{PartsAreWorked};
+ghost use Rattle.worked_answers.specs.WorkedPositions.{SavedPositionsAreWorked};
 ghost use Rattle.worked_answers.specs.WorkedSaved.{SavedFormsAreWorked, SavedTextsAreWorked};
 ghost use Rattle.worked_answers.specs.WorkedTables.{TableFormsAreWorked, TablesAreWorked};
 ghost use Rattle.worked_answers.specs.WorkedVerdicts.{VerdictsAreWorked};
@@ -57,4 +58,10 @@ pub fn saved_forms_are_worked()
 #[tactic(auto, unfolding(save_point::specs::SavedTexts::saved_text))]
 pub fn saved_texts_are_worked()
     ensures { SavedTextsAreWorked }
+{}
+
+/// A law: a saved position of a system with events and the rest of the trace from there are those that were worked out by hand.
+/// Saved texts have a position that fits the system exactly where that was worked out too.
+pub fn saved_positions_are_worked()
+    ensures { SavedPositionsAreWorked }
 {}

@@ -1,4 +1,4 @@
-use Rattle.std.proofs.Common.{◌≡◌, ℕ, ◌≤◌, pos, true, List, [], ◌∷◌, ◌++◌, inl, inr, refl, ap, arith}
+use Rattle.std.proofs.Common.{ℕ, ◌≤◌, pos, true, List, [], ◌∷◌, ◌++◌, inl, inr, refl, ap, arith}
 use Rattle.std.specs.Prelude.{codes}
 use Rattle.std.specs.Fmt.{digits}
 use Rattle.std.specs.Str.{bytes_eq}
@@ -6,18 +6,14 @@ use Rattle.std.proofs.lemmas.Bool.{leb-true}
 use Rattle.std.proofs.lemmas.List.{append_cancel_left}
 use Rattle.list_laws.proofs.Truths.{true_is_false}
 use Rattle.super_time.specs.declared.point.Point.{Point}
-use Rattle.unit_tree.specs.Lines.{lines_of, without_return}
 use Rattle.save_point.specs.Reading.{word_in}
-use Rattle.save_point.specs.SavedTexts.{BreaksState, IsFirstLine, IsRowLine, IsTitleLine, LacksPoint, LacksRow, NamedState, number_limit}
+use Rattle.save_point.specs.SavedTexts.{BreaksState, IsRowLine, IsTitleLine, LacksPoint, LacksRow, NamedState, number_limit}
 use Rattle.save_point.proofs.LineLaws.{lacks_all, lacks_this}
 use Rattle.save_point.proofs.ReadStates.{no_state}
 use Rattle.worked_answers.specs.WorkedTables.{text_of}
+use Rattle.worked_answers.proofs.FirstLines.{first_line}
 use Rattle.worked_answers.proofs.NeedlessZeros.{no_needless_zero}
 use Rattle.worked_answers.proofs.answers.saved_forms_are_worked.Goals as goal
-
--- A line with its end, before others.
-first_line : (line rest : List ℕ) → lines_of (line ++ 10 ∷ rest) ≡ line ∷ lines_of rest → line ≡ without_return line → IsFirstLine (line ++ 10 ∷ rest) line rest
-first_line line rest told without_end = record { whole = line; first = told; cut = inl refl; without_end = without_end }
 
 -- What follows the title, the row and the point, in the texts of which these lines have their form.
 abbrev wrong_row : List ℕ
