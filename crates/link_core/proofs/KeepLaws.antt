@@ -8,6 +8,7 @@ use Rattle.std.specs.Vec.{with_items}
 use Rattle.list_laws.proofs.Vectors.{items_put}
 use Rattle.link_laws.specs.Making.{nothing_known, rule_of}
 use Rattle.link_laws.specs.Nodes.{Making, restarted}
+use Rattle.std.proofs.lemmas.List.{length-map}
 use Rattle.link_core.specs.Noted.{AreNotes, forgotten, making_in, part_at}
 use Rattle.link_core.specs.Ready.{kept_in, progress_in, shown_in}
 use Rattle.link_core.specs.declared.course.NodePosition.{NodePosition}
@@ -16,7 +17,7 @@ use Rattle.link_core.specs.declared.notes.Notes.{Notes}
 use Rattle.link_core.proofs.NextRows.{known_is}
 use Rattle.link_core.proofs.LoopLaws.{Made, none_made, one_made}
 use Rattle.link_core.proofs.RoomLaws.{room_for, room_set, words_in}
-use Rattle.link_core.proofs.StageBodies.{as_many_mapped, mapped_at}
+use Rattle.step_rule.proofs.AlongLaws.{mapped_at}
 use Rattle.list_laws.proofs.Members.{read_at}
 use Rattle.list_laws.proofs.Pairs.{zip_set}
 use Rattle.port_solve.specs.Solved.{HaveStates}
@@ -58,7 +59,7 @@ module _ (run : Composition) (kept : List (Vec ℤ Global)) (k : ℕ) (one : Vec
     (have : HaveStates run (map words_in kept)) (read : one ≡ get_or kept k one)
     (now : Fleet) (had : HaveStates run now.states) (state : List ℤ) (is : state ≡ one.items) where
   many : k < length kept
-  many = let long = AllZip-long _ run.members (map words_in kept) have in let same = as_many_mapped words_in kept in omega (arith, within, long, same)
+  many = let long = AllZip-long _ run.members (map words_in kept) have in let same = length-map kept words_in in omega (arith, within, long, same)
 
   pub fits : length state ≡ length (slice_index_or now.states k [])
   fits = ap length is ∙ room_for run kept k one within many have read now.states had

@@ -3,6 +3,7 @@ pub mod AskedOutputs
 pub mod CountLaws
 pub mod NextRows
 pub mod KeepLaws
+pub mod KnownLaws
 pub mod LoopLaws
 pub mod NodeLaws
 pub mod OpenLaws

@@ -3,6 +3,7 @@ use Rattle.std.proofs.Common.{◌≡◌, ◌∙◌, ℕ, zero, suc, ◌+◌, ◌
 use Rattle.std.specs.Prelude.{replicate}
 use Rattle.link_laws.specs.Making.{names_of, nothing_known, part_of, ports_in, rule_of}
 use Rattle.link_laws.specs.Nodes.{Making, opened}
+use Rattle.std.proofs.lemmas.List.{length-map}
 use Rattle.link_core.specs.Noted.{AreNotes, is_defined, making_in, part_at}
 use Rattle.link_laws.specs.Boards.{are_nothing}
 use Rattle.link_core.specs.Ready.{progress_in, shown_in}
@@ -11,7 +12,6 @@ use Rattle.link_core.specs.declared.notes.Notes.{Notes}
 use Rattle.link_core.proofs.CountLaws.{none_defined}
 use Rattle.link_laws.proofs.PlaceLaws.{nothing_fed}
 use Rattle.link_core.proofs.RoomLaws.{words_in}
-use Rattle.link_core.proofs.StageBodies.{as_many_mapped}
 use Rattle.link_core.proofs.StageItems.{names_count}
 use Rattle.port_solve.specs.Solved.{HaveTheirWords}
 use Rattle.super_time.specs.declared.point.Point.{Point}
@@ -26,7 +26,7 @@ each_value (suc n) [] value is = absurd (omega (arith, is))
 each_value (suc n) (x ∷ xs) value is = ap (λ rest. value ∷ rest) (each_value n xs value (omega (arith, is)))
 
 values_long : {A B : Type 0} (n : ℕ) (xs : List A) (value : B) → n ≡ length xs → length (replicate n value) ≡ length xs
-values_long n xs value is = ap length (each_value n xs value is) ∙ as_many_mapped (λ x. value) xs
+values_long n xs value is = ap length (each_value n xs value is) ∙ length-map xs (λ x. value)
 
 value_behind : {A : Type 0} (n : ℕ) (value : A) → replicate n value ++ (value ∷ []) ≡ replicate (suc n) value
 value_behind zero value = refl
@@ -49,7 +49,7 @@ module _ (run : Composition) (places instances : ℕ) (many : places ≡ length 
   words_long =
       ap (λ (m : Making). length m.known.words) made
       ∙ ap length (each_value places (names_of run) None (many ∙ sym (names_count run)))
-      ∙ as_many_mapped (λ name. None) (names_of run) ∙ names_count run
+      ∙ length-map (names_of run) (λ name. None) ∙ names_count run
 
   nothing_is : are_nothing notes.words.items ≡ notes.words.items
   nothing_is = sym (each_value places notes.words.items None (many ∙ sym words_long)) ∙ sym (ap (λ (m : Making). m.known.words) made)

@@ -5,7 +5,7 @@ use Rattle.std.proofs.lemmas.Option.{same_Some, get_or_from_slice_get}
 use Rattle.std.specs.Prelude.{slice_get, slice_index_or}
 use Rattle.std.specs.Vec.{with_items}
 use Rattle.list_laws.proofs.Vectors.{items_put}
-use Rattle.link_core.proofs.StageBodies.{mapped_at}
+use Rattle.step_rule.proofs.AlongLaws.{mapped_at}
 use Rattle.link_core.proofs.TriedSteps.{state_long}
 use Rattle.list_laws.proofs.Members.{at_place, read_at}
 use Rattle.list_laws.proofs.Pairs.{zip_at, zip_set}

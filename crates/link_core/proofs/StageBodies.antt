@@ -1,153 +1,19 @@
 -- Loops that look for the stage of a row.
-use Rattle.std.proofs.Common.{◌≡◌, ◌∙◌, ℕ, zero, suc, ◌+◌, ◌-◌, ◌≤◌, min, Bool, true, false, ◌&&◌, is_some, List, [], ◌∷◌, length, map, drop, Option, Some}
-use Rattle.std.proofs.Common.{None, refl, sym, ap, ap₂, arith}
-use Rattle.std.proofs.lemmas.Option.{slice_get-map}
+use Rattle.std.proofs.Common.{◌≡◌, ◌∙◌, ℕ, ◌+◌, ◌-◌, ◌≤◌, min, Bool, true, List, length, drop, Option, Some, None, refl, sym, ap, ap₂, arith}
+use Rattle.std.proofs.lemmas.List.{drop_all}
+use Rattle.std.proofs.lemmas.Slice.Zip.{length-zip}
 use Rattle.std.specs.Prelude.{if◌then◌else◌, zip, slice_get}
-use Rattle.std.specs.List.{cons_option, enumerate_from, filter_map, list_all}
-use Rattle.std.specs.Option.{option_map}
-use Rattle.link_core.specs.Noted.{least_with, redo_end_in, redo_end_told, reply_in, reply_told, step_end_in, step_end_told}
-use Rattle.link_laws.specs.Stages.{moved_by, over_or, step_in, steps_in}
+use Rattle.std.specs.List.{cons_option, filter_map}
+use Rattle.link_core.specs.Noted.{least_with}
+use Rattle.link_laws.specs.Stages.{over_or}
 use Rattle.link_laws.specs.declared.stage.Stage.{Stage}
 use Rattle.link_laws.specs.declared.stage.Stage.TheVariants.{Limits}
-use Rattle.link_laws.specs.declared.fact.Said.{Said}
-use Rattle.link_laws.specs.declared.fact.Said.TheVariants.{Accepted, Fault as StepFault}
-use Rattle.list_laws.proofs.Pairs.{zip_there}
-use Rattle.super_time.specs.LocalTime.{local_step}
-use Rattle.unit_tree.specs.Compositions.{Member}
-use Rattle.unit_tree.specs.Negotiation.{is_held, least_of, proposal_of, reply_at}
-use Rattle.unit_tree.specs.Ports.{first_some}
-use Rattle.unit_tree.specs.Successor.{redo_end_of, step_end_of}
+use Rattle.step_rule.proofs.AlongLaws.{least_next, left_is}
+use Rattle.unit_tree.specs.Negotiation.{least_of, proposal_of}
 use Rattle.unit_tree.specs.declared.ending.Ending.{Ending}
 
--- ---- What is left of a list
-
-pub left_is : {X : Type 0} (xs : List X) (k : ℕ) (x : X) → slice_get xs k ≡ Some x → drop k xs ≡ x ∷ drop (k + 1) xs
-left_is xs k x is = by_clauses xs k x is ∙ ap (λ count. x ∷ drop count xs) (more k)
-  where
-    more : (k : ℕ) → suc k ≡ k + 1
-    more k = omega arith
-
-    by_clauses : {X : Type 0} (xs : List X) (k : ℕ) (x : X) → slice_get xs k ≡ Some x → drop k xs ≡ x ∷ drop (suc k) xs
-    by_clauses [] k x is = absurd (cc)
-    by_clauses (first ∷ xs) zero x is = let same : first ≡ x = cc in ap (λ one. one ∷ xs) same
-    by_clauses (first ∷ xs) (suc k) x is = by_clauses xs k x is
-
-pub none_left : {X : Type 0} (xs : List X) (k : ℕ) → length xs ≤ k → drop k xs ≡ []
-none_left [] zero past = refl
-none_left [] (suc k) past = refl
-none_left (x ∷ xs) zero past = absurd (omega (arith, past))
-none_left (x ∷ xs) (suc k) past = none_left xs k (omega (arith, past))
-
--- A loop over a list: what holds of the elements that are left holds of the whole.
-pub record Along {X Y : Type 0} (tell : List X → Y) (xs : List X) (k : ℕ) : Type 0 where
-  pub is : tell (drop k xs) ≡ tell xs
-
-pub begun : {X Y : Type 0} (tell : List X → Y) (xs : List X) → Along tell xs 0
-begun tell xs = record { is = refl }
-
-pub along_next : {X Y : Type 0} (tell : List X → Y) (xs : List X) (k : ℕ) (x : X) → slice_get xs k ≡ Some x
-    → tell (x ∷ drop (k + 1) xs) ≡ tell (drop (k + 1) xs) → Along tell xs k → Along tell xs (k + 1)
-along_next tell xs k x is same so = record { is = sym same ∙ sym (ap tell (left_is xs k x is)) ∙ so.is }
-
-pub along_here : {X Y : Type 0} (tell : List X → Y) (xs : List X) (k : ℕ) (x : X) (y : Y) → slice_get xs k ≡ Some x → tell (x ∷ drop (k + 1) xs) ≡ y
-    → Along tell xs k → y ≡ tell xs
-along_here tell xs k x y is told so = sym told ∙ sym (ap tell (left_is xs k x is)) ∙ so.is
-
-pub along_end : {X Y : Type 0} (tell : List X → Y) (xs : List X) (k : ℕ) (y : Y) → length xs ≤ k → tell [] ≡ y → Along tell xs k → y ≡ tell xs
-along_end tell xs k y past told so = sym told ∙ sym (ap tell (none_left xs k past)) ∙ so.is
-
--- ---- Items by their numbers
-
-pub numbered_at : {X : Type 0} (xs : List X) (from k : ℕ) (x : X) → slice_get xs k ≡ Some x → slice_get (enumerate_from from xs) k ≡ Some (from + k, x)
-numbered_at [] from k x is = absurd (cc)
-numbered_at (first ∷ xs) from zero x is =
-    let same : first ≡ x = cc in
-    let at : from ≡ from + 0 = omega arith in
-    ap₂ (λ number one. Some (number, one)) at same
-numbered_at (first ∷ xs) from (suc k) x is =
-    let at : from + 1 + k ≡ from + suc k = omega arith in
-    numbered_at xs (from + 1) k x is ∙ ap (λ number. Some (number, x)) at
-
-pub first_at : {X : Type 0} (xs : List X) (k : ℕ) (x : X) → slice_get xs k ≡ Some x → slice_get (enumerate_from 0 xs) k ≡ Some (k, x)
-first_at xs k x is = numbered_at xs 0 k x is ∙ ap (λ number. Some (number, x)) (none_before k)
-  where
-    none_before : (k : ℕ) → 0 + k ≡ k
-    none_before k = omega arith
-
-pub mapped_at : {X Y : Type 0} (f : X → Y) (xs : List X) (k : ℕ) (x : X) → slice_get xs k ≡ Some x → slice_get (map f xs) k ≡ Some (f x)
-mapped_at f xs k x is = slice_get-map f xs k ∙ ap (option_map f) is
-
-pub as_many_mapped : {X Y : Type 0} (f : X → Y) (xs : List X) → length (map f xs) ≡ length xs
-as_many_mapped f [] = refl
-as_many_mapped f (x ∷ xs) = let rest = as_many_mapped f xs in omega (arith, rest)
-
-pub as_many_numbered : {X : Type 0} (from : ℕ) (xs : List X) → length (enumerate_from from xs) ≡ length xs
-as_many_numbered from [] = refl
-as_many_numbered from (x ∷ xs) = let rest = as_many_numbered (from + 1) xs in omega (arith, rest)
-
 pub as_many_zipped : {X Y : Type 0} (xs : List X) (ys : List Y) → length ys ≡ length xs → length (zip xs ys) ≡ length xs
-as_many_zipped [] ys long = refl
-as_many_zipped (x ∷ xs) [] long = absurd (omega (arith, long))
-as_many_zipped (x ∷ xs) (y ∷ ys) long = let rest = as_many_zipped xs ys (omega (arith, long)) in omega (arith, rest)
-
--- ---- Steps by replies
-
-pub step_at_place : (t h : ℕ) (members : List Member) (replies : List (Option Said)) (k : ℕ) (member : Member) (said : Option Said)
-    → slice_get members k ≡ Some member → slice_get replies k ≡ Some said
-    → slice_get (steps_in t h members replies) k ≡ Some (step_in t h (member, said))
-step_at_place t h members replies k member said is told =
-    mapped_at (step_in t h) (zip members replies) k (member, said) (zip_there members replies k member said is told)
-
-pub step_is : (t h instance : ℕ) (member : Member) (said : Option Said)
-    → step_end_of (instance, step_in t h (member, said)) ≡ step_end_in instance member.factor t h said
-step_is t h instance member said = by_test (is_held member.factor t h) said
-  where
-    by_test : (test : Bool) (said : Option Said) → step_end_of (instance, if test then None else option_map moved_by said) ≡
-        (if test then None else step_end_told instance said)
-    by_test true said = refl
-    by_test false None = refl
-    by_test false (Some (Accepted accepted)) = refl
-    by_test false (Some (StepFault fault)) = refl
-
-pub reply_is : (t h : ℕ) (member : Member) (said : Option Said) → reply_at t h (member, step_in t h (member, said)) ≡ reply_in member.factor t h said
-reply_is t h member said = by_test (is_held member.factor t h) said
-  where
-    by_test : (test : Bool) (said : Option Said) → reply_at t h (member, if test then None else option_map moved_by said) ≡
-        (if test then h else reply_told member.factor t h said)
-    by_test true said = refl
-    by_test false None = refl
-    by_test false (Some (Accepted accepted)) = refl
-    by_test false (Some (StepFault fault)) = refl
-
-pub redo_is : (t h instance : ℕ) (member : Member) (said : Option Said)
-    → redo_end_of t h (instance, (member, step_in t h (member, said))) ≡ redo_end_in instance member.factor t h said
-redo_is t h instance member said = by_test (is_held member.factor t h) said
-  where
-    by_test : (test : Bool) (said : Option Said) → redo_end_of t h (instance, (member, if test then None else option_map moved_by said)) ≡
-        (if test then None else redo_end_told instance (local_step member.factor t h) said)
-    by_test true said = refl
-    by_test false None = refl
-    by_test false (Some (Accepted accepted)) = refl
-    by_test false (Some (StepFault fault)) = refl
-
--- ---- The least of some numbers
-
-pub least_next : (least first : ℕ) (numbers : List ℕ) → least_of least (first ∷ numbers) ≡ least_of (min least first) numbers
-least_next least first [] = refl
-least_next least first (next ∷ numbers) = omega arith
-
--- The least so far, with what is left, is the least of all.
-pub record Least (first : ℕ) (numbers : List ℕ) (k least : ℕ) : Type 0 where
-  pub is : least_of least (drop k numbers) ≡ least_of first numbers
-
-pub one_lesser : (first : ℕ) (numbers : List ℕ) (k least number : ℕ) → slice_get numbers k ≡ Some number → Least first numbers k least
-    → Least first numbers (k + 1) (min least number)
-one_lesser first numbers k least number is so = record {
-  is = sym (least_next least number (drop (k + 1) numbers)) ∙ sym (ap (least_of least) (left_is numbers k number is)) ∙ so.is;
-}
-
-pub least_is : (first : ℕ) (numbers : List ℕ) (k least : ℕ) → length numbers ≤ k → Least first numbers k least → least ≡ least_of first numbers
-least_is first numbers k least past so = sym (ap (least_of least) (none_left numbers k past)) ∙ so.is
+as_many_zipped xs ys long = omega (arith, length-zip xs ys, long)
 
 -- ---- Limits
 
@@ -169,42 +35,7 @@ pub proposed_is : {X : Type 0} (limit : X → Option ℕ) (xs : List X) (stop lo
     → Proposes limit xs (min (stop - t) longest) k least
     → least ≡ proposal_of stop longest t (filter_map limit xs)
 proposed_is limit xs stop longest t k least past so =
-    sym (ap (λ left. least_of least (filter_map limit left)) (none_left xs k past)) ∙ so.is ∙ sym (least_next (stop - t) longest (filter_map limit xs))
-
--- ---- An end that is found item by item
-
--- No item before a place has an end.
-abbrev pub ToldFrom : List (Option Ending) → ℕ → Type 0
-ToldFrom ends k = Along first_some ends k
-
-pub told_next : (ends : List (Option Ending)) (k : ℕ) (end : Option Ending) → slice_get ends k ≡ Some end → is_some end ≡ false → ToldFrom ends k
-    → ToldFrom ends (k + 1)
-told_next ends k None is none so = along_next first_some ends k None is refl so
-told_next ends k (Some ending) is none so = absurd (cc)
-
-pub told_here : (ends : List (Option Ending)) (k : ℕ) (end : Option Ending) → slice_get ends k ≡ Some end → is_some end ≡ true → ToldFrom ends k
-    → end ≡ first_some ends
-told_here ends k None is some so = absurd (cc)
-told_here ends k (Some ending) is some so = along_here first_some ends k (Some ending) (Some ending) is refl so
-
-pub told_none : (ends : List (Option Ending)) (k : ℕ) → length ends ≤ k → ToldFrom ends k → None ≡ first_some ends
-told_none ends k past so = along_end first_some ends k None past refl so
-
--- ---- A test of all items
-
-abbrev pub AllFrom : {X : Type 0} → (X → Bool) → List X → ℕ → Type 0
-AllFrom test xs k = Along (list_all test) xs k
-
-pub all_next : {X : Type 0} (test : X → Bool) (xs : List X) (k : ℕ) (x : X) → slice_get xs k ≡ Some x → test x ≡ true → AllFrom test xs k
-    → AllFrom test xs (k + 1)
-all_next test xs k x is so_test so = along_next (list_all test) xs k x is (ap (λ one. one && list_all test (drop (k + 1) xs)) so_test) so
-
-pub all_fails : {X : Type 0} (test : X → Bool) (xs : List X) (k : ℕ) (x : X) → slice_get xs k ≡ Some x → test x ≡ false → AllFrom test xs k
-    → false ≡ list_all test xs
-all_fails test xs k x is fails so = along_here (list_all test) xs k x false is (ap (λ one. one && list_all test (drop (k + 1) xs)) fails) so
-
-pub all_hold : {X : Type 0} (test : X → Bool) (xs : List X) (k : ℕ) → length xs ≤ k → AllFrom test xs k → true ≡ list_all test xs
-all_hold test xs k past so = along_end (list_all test) xs k true past refl so
+    sym (ap (λ left. least_of least (filter_map limit left)) (drop_all k xs past)) ∙ so.is ∙ sym (least_next (stop - t) longest (filter_map limit xs))
 
 pub with_most : (least : ℕ) (found : Option ℕ) → least_with least found ≤ least
 with_most least None = omega arith

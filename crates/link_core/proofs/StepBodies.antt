@@ -9,10 +9,12 @@ use Rattle.link_laws.specs.Making.{limits_by, own_state, own_states, put_said, r
 use Rattle.link_laws.specs.declared.stage.Stage.{Stage}
 use Rattle.link_laws.specs.declared.stage.Stage.TheVariants.{Words, Limits, Trial, Redo, Over, On}
 use Rattle.link_laws.specs.Nodes.{Making}
+use Rattle.std.proofs.lemmas.List.{length-map}
 use Rattle.link_core.specs.Noted.{IsPartOf, limit_if, part_at, reply_if, stepped, stepped_if, stepped_one}
 use Rattle.link_laws.specs.declared.fact.Fact.TheVariants.{Limit}
 use Rattle.link_core.proofs.PassBodies.{Going, goes_on}
-use Rattle.link_core.proofs.StageBodies.{as_many_mapped, as_many_zipped, mapped_at}
+use Rattle.link_core.proofs.StageBodies.{as_many_zipped}
+use Rattle.step_rule.proofs.AlongLaws.{mapped_at}
 use Rattle.link_laws.specs.declared.fact.Asked.{Asked}
 use Rattle.link_laws.specs.declared.fact.Fact.{Fact}
 use Rattle.link_laws.specs.declared.fact.Said.{Said}
@@ -203,7 +205,7 @@ pub items_long : (run : Composition) (owners : List ℕ) (me : ℕ) (point : Poi
     → length states ≡ length run.members
     → length (zip owners (standings run (part_at owners me point row states))) ≡ length run.members
 items_long run owners me point row states owns long =
-    let own = as_many_mapped (own_state me) (zip owners states) ∙ as_many_zipped owners states (long ∙ sym owns) in
+    let own = length-map (zip owners states) (own_state me) ∙ as_many_zipped owners states (long ∙ sym owns) in
     as_many_zipped owners (standings run (part_at owners me point row states))
     (as_many_zipped run.members (own_states owners me states) (own ∙ owns) ∙ sym owns) ∙ owns
 

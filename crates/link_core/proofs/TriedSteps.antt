@@ -6,6 +6,7 @@ use Rattle.std.specs.Prelude.{if◌then◌else◌, zip, ◌==◌, slice_get, sli
 use Rattle.std.specs.Option.{option_map}
 use Rattle.fixed_words.specs.declared.types.Fault.{Fault}
 use Rattle.link_laws.specs.Boards.{said_of}
+use Rattle.std.proofs.lemmas.List.{length-map}
 use Rattle.link_core.specs.Noted.{said_given, stepped, stepped_if, stepped_one}
 use Rattle.link_laws.specs.declared.fact.Said.{Said}
 use Rattle.list_laws.proofs.Members.{at_place, set_same}
@@ -18,7 +19,7 @@ use Rattle.unit_tree.specs.Compositions.{Composition, Member}
 use Rattle.unit_tree.specs.Negotiation.{all_inputs, inputs_at, is_held, state_after, step_at}
 use Rattle.unit_tree.specs.Ports.{Ports}
 use Rattle.link_core.proofs.LoopLaws.{Made, one_made}
-use Rattle.link_core.proofs.StageBodies.{as_many_mapped, as_many_zipped}
+use Rattle.link_core.proofs.StageBodies.{as_many_zipped}
 use Rattle.link_core.proofs.StepBodies.{at_instance, inputs_there, stepped_at}
 use Rattle.std.proofs.lemmas.Grind.{drop_more_same}
 
@@ -161,7 +162,7 @@ pub stepped_long : (run : Composition) (owners : List ℕ) (me t h : ℕ) (ports
     → length states ≡ length run.members
     → length (stepped run owners me t h ports states) ≡ length run.members
 stepped_long run owners me t h ports states owns long =
-    as_many_mapped (stepped_one me t h ports) (zip owners (zip run.members states))
+    length-map (zip owners (zip run.members states)) (stepped_one me t h ports)
     ∙ as_many_zipped owners (zip run.members states) (as_many_zipped run.members states long ∙ sym owns) ∙ owns
 
 pub stepping_next : (run : Composition) (owners : List ℕ) (me t h k d : ℕ) (old now next : Fleet) (ports : Ports) → length owners ≡ length run.members

@@ -1,5 +1,5 @@
 -- Notes as the code has them: the board, the facts, and memory for as many more as there are unknown items. No promise depends on them.
-use Rattle.std.specs.Prelude.{◌≡◌, ℕ, suc, ◌+◌, ◌≤◌, ◌<◌, ◌==◌, min, nat_lt, Bool, true, false, ◌&&◌, is_none, ℤ, List, [], ◌∷◌, map, zip, length}
+use Rattle.std.specs.Prelude.{◌≡◌, ℕ, suc, ◌+◌, ◌≤◌, ◌<◌, ◌==◌, min, Bool, true, false, ◌&&◌, is_none, ℤ, List, [], ◌∷◌, map, zip, length}
 use Rattle.std.specs.Prelude.{slice_set, vec_capacity, if◌then◌else◌, Option, Some, None, Result, Ok, Err, ⊤}
 use Rattle.std.specs.Option.{option_map}
 use Rattle.fixed_words.specs.declared.types.Fault.{Fault}
@@ -17,17 +17,13 @@ use Rattle.link_core.specs.declared.notes.Notes.{Notes}
 use Rattle.link_laws.specs.declared.stage.Stage.{Stage}
 use Rattle.link_laws.specs.declared.stage.Stage.TheVariants.{Limits, Trial, Redo, On}
 use Rattle.port_solve.specs.Sound.{IsWordOf}
-use Rattle.super_time.specs.LocalTime.{local_step}
 use Rattle.super_time.specs.declared.point.Point.{Point}
 use Rattle.unit_tree.specs.Compositions.{Composition}
-use Rattle.unit_tree.specs.Negotiation.{all_inputs, is_held, max_at, reply_of, state_after, step_at}
+use Rattle.unit_tree.specs.Negotiation.{all_inputs, max_at, state_after, step_at}
 use Rattle.unit_tree.specs.Ports.{Ports, Standing}
 use Rattle.unit_tree.specs.Routes.{routes_of}
-use Rattle.unit_tree.specs.Successor.{Position, when}
+use Rattle.unit_tree.specs.Successor.{Position}
 use Rattle.unit_tree.specs.Trace.{Stand}
-use Rattle.unit_tree.specs.declared.ending.Ending.{Ending}
-use Rattle.unit_tree.specs.declared.ending.Ending.TheVariants.{UnitFault, StepRefused}
-use Rattle.unit_tree.specs.declared.ending.Place.TheVariants as place
 
 abbrev pub making_in : Notes → Making
 making_in notes = record {
@@ -107,37 +103,12 @@ abbrev pub with_port : Ports → ℕ → Seen → Ports
 with_port ports place (Is word) = slice_set ports place (Some word)
 with_port ports place other = ports
 
--- ---- Steps, by facts of them
-
--- The reply to a step of h from t.
-abbrev pub reply_told : ℕ → ℕ → ℕ → Option Said → ℕ
-reply_told factor t h (Some (Accepted accepted)) = reply_of factor t h accepted
-reply_told factor t h other = h
-
-abbrev pub reply_in : ℕ → ℕ → ℕ → Option Said → ℕ
-reply_in factor t h said = if is_held factor t h then h else reply_told factor t h said
-
--- How a fact of a step ends the run in the trial.
-abbrev pub step_end_told : ℕ → Option Said → Option Ending
-step_end_told instance (Some (StepFault fault)) = Some (UnitFault instance place.Step fault)
-step_end_told instance other = None
-
-abbrev pub step_end_in : ℕ → ℕ → ℕ → ℕ → Option Said → Option Ending
-step_end_in instance factor t h said = if is_held factor t h then None else step_end_told instance said
+-- ---- Limits
 
 -- A length, and at most a limit, where there is one.
 abbrev pub least_with : ℕ → Option ℕ → ℕ
 least_with least None = least
 least_with least (Some limit) = min least limit
-
--- How a fact of a step ends the run in a redo.
-abbrev pub redo_end_told : ℕ → ℕ → Option Said → Option Ending
-redo_end_told instance asked (Some (Accepted accepted)) = when (nat_lt accepted asked) (StepRefused instance asked accepted)
-redo_end_told instance asked (Some (StepFault fault)) = Some (UnitFault instance place.Step fault)
-redo_end_told instance asked None = None
-
-abbrev pub redo_end_in : ℕ → ℕ → ℕ → ℕ → Option Said → Option Ending
-redo_end_in instance factor t h said = if is_held factor t h then None else redo_end_told instance (local_step factor t h) said
 
 -- ---- The facts of an instance
 

@@ -17,6 +17,7 @@ mod notes;
 mod opening;
 mod owners;
 mod pair;
+mod replies;
 mod stage;
 mod steps;
 mod taking;

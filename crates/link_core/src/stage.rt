@@ -1,20 +1,20 @@
 //! What a row requires next.
-ghost use Rattle.std.specs.Prelude.{◌≡◌, ◌≤◌, ◌<◌, ◌+◌, ◌^◌, true, min, map, zip, length, is_some, ◌&&◌, ◌==◌, if◌then◌else◌, Some};
+ghost use Rattle.std.specs.Prelude.{◌≡◌, ◌≤◌, ◌<◌, ◌+◌, ◌^◌, map, zip, length, is_some};
 ghost use Rattle.std.specs.List.{list_all, filter_map};
 ghost use Rattle.link_laws.specs.Making.{names_of};
-ghost use Rattle.link_core.specs.Noted.{making_in, AreNotes, place_of, position_at, least_with, redo_end_in, reply_in, step_end_in, AllowsStep};
-ghost use Rattle.link_laws.specs.Stages.{stage_of, stage_of_limits, stage_of_trial, stage_of_redo, stage_on};
-ghost use Rattle.link_laws.specs.Stages.{word_end, max_by, limit_in, steps_in, are_answered, is_answered};
-ghost use Rattle.unit_tree.specs.Negotiation.{is_held, limit_told, proposal_of, least_of, reply_at};
+ghost use Rattle.link_core.specs.Noted.{making_in, AreNotes, place_of, position_at, least_with, AllowsStep};
+ghost use Rattle.link_laws.specs.Stages.{stage_of, stage_of_limits, stage_of_trial, stage_of_redo, stage_on, word_end, max_by, limit_in};
+ghost use Rattle.unit_tree.specs.Negotiation.{limit_told, proposal_of};
 ghost use Rattle.unit_tree.specs.Ports.{first_some};
 ghost use Rattle.unit_tree.specs.Routes.{routes_of};
-ghost use Rattle.unit_tree.specs.Successor.{first_told, max_end_of, step_end_of, redo_end_of};
+ghost use Rattle.unit_tree.specs.Successor.{first_told, max_end_of};
 ghost use Rattle.model_rules.specs.Limits.{instance_limit};
 
 use crate::notes::Notes;
+use crate::replies::Replies;
 use link_laws::{Asked, Said, Seen, Stage};
-use step_rule::{capped, is_held};
-use super_time::{Point, limit, local_step};
+use step_rule::{NextPoint, after, are_made, capped, read_redo, read_trial};
+use super_time::{Point, limit};
 use trace_plan::Plan;
 use unit_tree::{Ending, Place, Route};
 
@@ -110,147 +110,18 @@ fn proposal(plan: &Plan, limits: &[Option<Asked>], t: u64) -> u64
     least
 }
 
-/// Returns whether the reply of an instance to a step of `h` from `t` is known, or not required.
-fn is_answered(factor: u64, t: u64, h: u64, said: Option<Said>) -> bool
-    requires factor { 1 ≤ factor }
-    requires end { t + h ≤ 10 ^ 15 }
-    ensures { result ≡ (if is_held factor t h then true else is_some said) }
-{
-    is_held(factor, t, h) || said.is_some()
-}
-
-/// Returns whether all replies to a step of `h` from `t` are known.
-fn are_answered(plan: &Plan, replies: &[Option<Said>], t: u64, h: u64) -> bool
-    requires replies { length replies.now ≡ length plan.now.run.members }
-    requires end { t + h ≤ 10 ^ 15 }
-    ensures { result ≡ are_answered t h plan.now.run.members replies.now }
-{
-    for instance in 0..plan.instances() {
-        if !is_answered(plan.factor(instance), t, h, replies[instance as usize]) {
-            return false;
-        }
-    }
-    true
-}
-
-/// Returns how an instance ends the run in a step of `h` from `t`, if it does, by what is known. Nothing is read of a held instance.
-fn step_end(instance: u32, factor: u64, t: u64, h: u64, said: Option<Said>) -> Option<Ending>
-    requires factor { 1 ≤ factor }
-    requires end { t + h ≤ 10 ^ 15 }
-    ensures { result ≡ step_end_in instance factor t h said }
-{
-    if is_held(factor, t, h) {
-        return None;
-    }
-    match said {
-        Some(Said::Fault(fault)) => Some(Ending::UnitFault {
-            instance,
-            place: Place::Step,
-            fault,
-        }),
-        _ => None,
-    }
-}
-
-/// Returns how a fault of a step ends the run, if there is one: the first by its instance.
-fn step_fault(plan: &Plan, replies: &[Option<Said>], t: u64, h: u64) -> Option<Ending>
-    requires replies { length replies.now ≡ length plan.now.run.members }
-    requires end { t + h ≤ 10 ^ 15 }
-    ensures { result ≡ first_told step_end_of (steps_in t h plan.now.run.members replies.now) }
-{
-    for instance in 0..plan.instances() {
-        let said = replies[instance as usize];
-        let end = step_end(instance, plan.factor(instance), t, h, said);
-        if end.is_some() {
-            return end;
-        }
-    }
-    None
-}
-
-/// Returns the reply of an instance to a step of `h` from `t`, or `least` where that is less.
-fn capped_reply(factor: u64, t: u64, h: u64, said: Option<Said>, least: u64) -> u64
-    requires factor { 1 ≤ factor }
-    requires coarsest { factor ≤ 10 ^ 9 }
-    requires end { t + h ≤ 10 ^ 15 }
-    requires at_most { least ≤ h }
-    ensures { result ≡ min least (reply_in factor t h said) }
-{
-    if let Some(Said::Accepted(accepted)) = said {
-        let step = local_step(factor, t, h);
-        if accepted != step && (h == 0 || step > 0) {
-            return capped(least, limit(factor, t, accepted));
-        }
-    }
-    least
-}
-
-/// Returns the least of a step of `h` from `t` and of the replies to it, which are all known.
-fn least_reply(plan: &Plan, replies: &[Option<Said>], t: u64, h: u64) -> u64
-    requires replies { length replies.now ≡ length plan.now.run.members }
-    requires end { t + h ≤ 10 ^ 15 }
-    ensures least { result ≡ least_of h (map (reply_at t h) (zip plan.now.run.members (steps_in t h plan.now.run.members replies.now))) }
-    ensures at_most { result ≤ h }
-{
-    let mut least = h;
-    for instance in 0..plan.instances() {
-        let said = replies[instance as usize];
-        least = capped_reply(plan.factor(instance), t, h, said, least);
-    }
-    least
-}
-
-/// Returns how an instance ends the run in a redo: by its fault, or where it accepts less than the whole step.
-fn refusal(instance: u32, factor: u64, t: u64, h: u64, said: Option<Said>) -> Option<Ending>
-    requires factor { 1 ≤ factor }
-    requires end { t + h ≤ 10 ^ 15 }
-    ensures { result ≡ redo_end_in instance factor t h said }
-{
-    if is_held(factor, t, h) {
-        return None;
-    }
-    let asked = local_step(factor, t, h);
-    match said {
-        Some(Said::Accepted(accepted)) if accepted < asked => Some(Ending::StepRefused {
-            instance,
-            asked,
-            accepted,
-        }),
-        Some(Said::Fault(fault)) => Some(Ending::UnitFault {
-            instance,
-            place: Place::Step,
-            fault,
-        }),
-        _ => None,
-    }
-}
-
-/// Returns how a redo ends the run, if it does: by the first instance that faults or accepts less than the whole step.
-fn redo_end(plan: &Plan, redos: &[Option<Said>], t: u64, h: u64) -> Option<Ending>
-    requires redos { length redos.now ≡ length plan.now.run.members }
-    requires end { t + h ≤ 10 ^ 15 }
-    ensures { result ≡ first_told (redo_end_of t h) (zip plan.now.run.members (steps_in t h plan.now.run.members redos.now)) }
-{
-    for instance in 0..plan.instances() {
-        let said = redos[instance as usize];
-        let end = refusal(instance, plan.factor(instance), t, h, said);
-        if end.is_some() {
-            return end;
-        }
-    }
-    None
-}
-
 /// Returns the stage of a row that goes on by a step of `h`, unless this is one zero step too many.
 fn stage_on(plan: &Plan, point: Point, h: u64) -> Stage
     requires end { point.t + h ≤ plan.now.run.stop }
+    requires zeros { point.n ≤ plan.now.run.zero_budget }
     ensures stage { result ≡ stage_on plan.now.run (place_of point) h }
     ensures step { AllowsStep plan.now.run point result }
 {
-    if h == 0 && point.n == plan.zero_budget() {
-        Stage::Over(Ending::ZeroBudget)
-    } else {
-        Stage::On(h)
+    // Called for its clauses, which state how large the numbers of a plan are.
+    let _ = plan.stop();
+    match after(point, h, plan.zero_budget()) {
+        NextPoint::ZeroBudget => Stage::Over(Ending::ZeroBudget),
+        NextPoint::Next(_) => Stage::On(h),
     }
 }
 
@@ -258,40 +129,52 @@ fn stage_on(plan: &Plan, point: Point, h: u64) -> Stage
 fn stage_of_redo(plan: &Plan, point: Point, redos: &[Option<Said>], h: u64) -> Stage
     requires redos { length redos.now ≡ length plan.now.run.members }
     requires end { point.t + h ≤ plan.now.run.stop }
+    requires zeros { point.n ≤ plan.now.run.zero_budget }
     ensures stage { result ≡ stage_of_redo plan.now.run (place_of point) redos.now h }
     ensures step { AllowsStep plan.now.run point result }
 {
-    // Called for its clauses, which state how large the numbers of a plan are.
+    // Called for their clauses, which state how large the numbers of a plan are.
     let _ = plan.stop();
-    if !are_answered(plan, redos, point.t, h) {
+    let _ = plan.instances();
+    let steps = Replies {
+        plan,
+        said: redos,
+        t: point.t,
+        h,
+    };
+    if !are_made(&steps) {
         return Stage::Redo(h);
     }
-    if let Some(ending) = redo_end(plan, redos, point.t, h) {
-        return Stage::Over(ending);
+    match read_redo(&steps) {
+        Some(ending) => Stage::Over(ending),
+        None => stage_on(plan, point, h),
     }
-    stage_on(plan, point, h)
 }
 
 /// Returns the stage of a row with a trial of `h`.
 fn stage_of_trial(plan: &Plan, point: Point, notes: &Notes, h: u64) -> Stage
     requires notes { AreNotes plan.now.run notes.now }
     requires end { point.t + h ≤ plan.now.run.stop }
+    requires zeros { point.n ≤ plan.now.run.zero_budget }
     ensures stage { result ≡ stage_of_trial plan.now.run (place_of point) notes.now.replies.items notes.now.redos.items h }
     ensures step { AllowsStep plan.now.run point result }
 {
-    // Called for its clauses, which state how large the numbers of a plan are.
+    // Called for their clauses, which state how large the numbers of a plan are.
     let _ = plan.stop();
-    if !are_answered(plan, &notes.replies, point.t, h) {
+    let _ = plan.instances();
+    let steps = Replies {
+        plan,
+        said: &notes.replies,
+        t: point.t,
+        h,
+    };
+    if !are_made(&steps) {
         return Stage::Trial(h);
     }
-    if let Some(ending) = step_fault(plan, &notes.replies, point.t, h) {
-        return Stage::Over(ending);
-    }
-    let least = least_reply(plan, &notes.replies, point.t, h);
-    if least < h {
-        stage_of_redo(plan, point, &notes.redos, least)
-    } else {
-        stage_on(plan, point, least)
+    match read_trial(&steps, point.t, h) {
+        Err(ending) => Stage::Over(ending),
+        Ok(least) if least < h => stage_of_redo(plan, point, &notes.redos, least),
+        Ok(least) => stage_on(plan, point, least),
     }
 }
 
@@ -299,6 +182,7 @@ fn stage_of_trial(plan: &Plan, point: Point, notes: &Notes, h: u64) -> Stage
 fn stage_of_limits(plan: &Plan, point: Point, notes: &Notes) -> Stage
     requires notes { AreNotes plan.now.run notes.now }
     requires time { point.t ≤ plan.now.run.stop }
+    requires zeros { point.n ≤ plan.now.run.zero_budget }
     ensures stage { result ≡ stage_of_limits plan.now.run (place_of point) (making_in notes.now).known }
     ensures step { AllowsStep plan.now.run point result }
 {
@@ -318,6 +202,7 @@ fn stage_of_limits(plan: &Plan, point: Point, notes: &Notes) -> Stage
 pub(crate) fn find_stage(plan: &Plan, point: Point, number: u64, notes: &Notes) -> Stage
     requires notes { AreNotes plan.now.run notes.now }
     requires time { point.t ≤ plan.now.run.stop }
+    requires zeros { point.n ≤ plan.now.run.zero_budget }
     requires rows { number < plan.now.run.row_budget }
     ensures stage { result ≡ stage_of plan.now.run (names_of plan.now.run) (position_at point number) (making_in notes.now).known }
     ensures step { AllowsStep plan.now.run point result }

@@ -1,5 +1,5 @@
 //! The work of a node: it makes facts, and goes on where none is missing.
-ghost use Rattle.std.specs.Prelude.{◌≡◌, ◌≤◌, ◌<◌, ◌==◌, ◌&&◌, ◌+◌, false, map, length, vec_capacity, None};
+ghost use Rattle.std.specs.Prelude.{◌≡◌, ◌≤◌, ◌<◌, map, length, vec_capacity, None};
 ghost use Rattle.link_core.specs.declared.course.Kept.{Kept};
 ghost use Rattle.link_laws.specs.Making.{limits_by, move_by, ports_in, redos_by, replies_by, rule_of, stage_at};
 ghost use Rattle.link_laws.specs.Nodes.{moved, worked};
@@ -7,7 +7,6 @@ ghost use Rattle.link_core.specs.Noted.{making_in, part_at, AllowsStep, AreFed, 
 ghost use Rattle.link_core.specs.Ready.{IsJudged, IsReady, all_made, progress_in};
 ghost use Rattle.port_solve.specs.Solved.{HaveStates, HaveTheirWords};
 ghost use Rattle.unit_tree.specs.Routes.{routes_of};
-ghost use Rattle.unit_tree.specs.Successor.{point_after};
 
 use crate::course::{NodePosition, show};
 use crate::notes::Notes;
@@ -15,7 +14,7 @@ use crate::stage::find_stage;
 use crate::steps::{Trial, make_limits, make_replies, step_all};
 use crate::words::make_words;
 use link_laws::{Stage, Taken};
-use step_rule::{NextPoint, after};
+use step_rule::next_point;
 use super_time::Point;
 use trace_plan::Plan;
 use trace_units::Units;
@@ -159,6 +158,7 @@ pub(crate) fn make_all(
     requires room { HasRoom notes.old }
     requires before { HaveStates plan.now.run (map (λ one. one.items) before.old.items) }
     requires time { point.t ≤ plan.now.run.stop }
+    requires zeros { point.n ≤ plan.now.run.zero_budget }
     requires rows { row < plan.now.run.row_budget }
     ensures made { making_in notes.new
         ≡ all_made plan.now.run owners.now me (part_at owners.now me point row units.old.states) (making_in notes.old) }
@@ -176,21 +176,6 @@ pub(crate) fn make_all(
     make_replies_wanted(plan, units, before, notes, owners, me, point, row, wanted);
     let wanted = find_stage(plan, point, row, notes);
     make_redos_wanted(plan, units, before, notes, owners, me, point, row, wanted);
-}
-
-/// Returns the point after a step of `h`, which is not one zero step too many.
-fn next_point(plan: &Plan, point: Point, h: u64) -> Point
-    requires end { point.t + h ≤ plan.now.run.stop }
-    requires zeros { point.n ≤ plan.now.run.zero_budget }
-    requires budget { ((h == 0) && (point.n == plan.now.run.zero_budget)) ≡ false }
-    ensures { result ≡ point_after point h }
-{
-    // Called for its clauses, which state how large the numbers of a plan are.
-    let _ = plan.stop();
-    match after(point, h, plan.zero_budget()) {
-        NextPoint::Next(next) => next,
-        NextPoint::ZeroBudget => point,
-    }
 }
 
 /// Goes on to the next row, or ends, where no fact of this one is missing.
@@ -228,7 +213,7 @@ pub(crate) fn go_on(
             show(plan, &mut course.shown, course.point, &notes.words);
             step_all(plan, units, owners, me, course.point.t, h);
             notes.clear();
-            course.point = next_point(plan, course.point, h);
+            course.point = next_point(course.point, h);
             course.number += 1;
             Taken::Row
         }

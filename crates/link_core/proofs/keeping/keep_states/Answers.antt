@@ -1,8 +1,8 @@
 use Rattle.std.proofs.Common.{◌<◌, ◌∙◌, length, map, ap, arith}
 use Rattle.std.proofs.lemmas.Slice.Zip.{AllZip-long}
+use Rattle.std.proofs.lemmas.List.{length-map}
 use Rattle.link_core.proofs.KeepLaws.{as_long, kept_next, none_kept}
 use Rattle.link_core.proofs.LoopLaws.{all_made}
-use Rattle.link_core.proofs.StageBodies.{as_many_mapped}
 use Rattle.link_core.proofs.keeping.keep_states.Goals as goal
 
 pub loop-instance-init : goal.loop-instance-init
@@ -15,7 +15,7 @@ loop-instance-init c = record {
 pub index_mut-requires : goal.index_mut-requires
 index_mut-requires c =
     let long = AllZip-long _ c.args.units.now.plan.run.members _ c.loop-instance.invariant.long in
-    omega (arith, c.loop-instance-test.true, c.count-instance-end.ensures.count, long, as_many_mapped (λ one. one.items) c.loop-instance.states.items)
+    omega (arith, c.loop-instance-test.true, c.count-instance-end.ensures.count, long, length-map c.loop-instance.states.items (λ one. one.items))
 
 pub copy_words-requires : goal.copy_words-requires
 copy_words-requires c =
@@ -24,7 +24,7 @@ copy_words-requires c =
     let room = c.loop-instance.states.items in
     let within : k < length run.members = omega (arith, c.loop-instance-test.true, c.count-instance-end.ensures.count) in
     let long = AllZip-long _ run.members _ c.loop-instance.invariant.long in
-    let many : k < length room = omega (arith, within, long, as_many_mapped (λ one. one.items) room) in
+    let many : k < length room = omega (arith, within, long, length-map room (λ one. one.items)) in
     ap length c.deref_mut.ensures.value
     ∙ as_long run room k c.index_mut.result.now within many c.loop-instance.invariant.long c.index_mut.ensures.value c.args.units.now.states
     c.count-instance-end.ensures.states c.state.result.now c.state.ensures
@@ -36,7 +36,7 @@ loop-instance-preserved c =
     let room = c.loop-instance.states.items in
     let within : k < length run.members = omega (arith, c.loop-instance-test.true, c.count-instance-end.ensures.count) in
     let long = AllZip-long _ run.members _ c.loop-instance.invariant.long in
-    let many : k < length room = omega (arith, within, long, as_many_mapped (λ one. one.items) room) in
+    let many : k < length room = omega (arith, within, long, length-map room (λ one. one.items)) in
     let next = kept_next run room k c.index_mut.result.now within many c.loop-instance.invariant.long c.index_mut.ensures.value c.args.units.now.states
     c.count-instance-end.ensures.states c.state.result.now c.state.ensures c.copy_words.new.into c.copy_words.ensures c.loop-instance.invariant.made in
     record { long = next.long; made = next.made }

@@ -1,8 +1,8 @@
 use Rattle.std.proofs.Common.{◌<◌, ◌∙◌, length, map, refl, arith}
 use Rattle.std.proofs.lemmas.Slice.Zip.{AllZip-long}
+use Rattle.std.proofs.lemmas.List.{length-map}
 use Rattle.link_core.proofs.KeepLaws.{fits, none_kept, restored_next}
 use Rattle.link_core.proofs.LoopLaws.{all_made}
-use Rattle.link_core.proofs.StageBodies.{as_many_mapped}
 use Rattle.link_core.proofs.TriedSteps.{fleet_is}
 use Rattle.link_core.proofs.keeping.restore_states.Goals as goal
 
@@ -18,7 +18,7 @@ loop-instance-init c = record {
 pub bounds-states-instance : goal.bounds-states-instance
 bounds-states-instance c =
     let long = AllZip-long _ c.args.units.now.plan.run.members _ c.requires.long in
-    omega (arith, c.loop-instance-test.true, c.count-instance-end.ensures.count, long, as_many_mapped (λ one. one.items) c.args.states.now)
+    omega (arith, c.loop-instance-test.true, c.count-instance-end.ensures.count, long, length-map c.args.states.now (λ one. one.items))
 
 pub restore-requires-clause-same_length : goal.restore-requires-clause-same_length
 restore-requires-clause-same_length c =

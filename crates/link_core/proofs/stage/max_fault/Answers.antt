@@ -1,7 +1,7 @@
 use Rattle.std.proofs.Common.{◌≡◌, true, false, map, is_some, arith}
 use Rattle.std.specs.List.{enumerate_from}
 use Rattle.link_laws.specs.Stages.{max_by}
-use Rattle.link_core.proofs.StageBodies.{told_here, told_next, told_none}
+use Rattle.step_rule.proofs.AlongLaws.{told_here, told_next, told_none}
 use Rattle.link_core.proofs.StageItems.{max_ends_long, max_there}
 use Rattle.link_core.proofs.stage.max_fault.Goals as goal
 use Rattle.unit_tree.specs.Successor.{max_end_of}

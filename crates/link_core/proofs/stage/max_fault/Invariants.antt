@@ -1,7 +1,7 @@
 use Rattle.std.proofs.Common.{map}
 use Rattle.std.specs.List.{enumerate_from}
 use Rattle.link_laws.specs.Stages.{max_by}
-use Rattle.link_core.proofs.StageBodies.{ToldFrom}
+use Rattle.step_rule.proofs.AlongLaws.{ToldFrom}
 use Rattle.link_core.proofs.stage.max_fault.Given as goal
 use Rattle.unit_tree.specs.Successor.{max_end_of}
 

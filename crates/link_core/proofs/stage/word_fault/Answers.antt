@@ -3,7 +3,7 @@ use Rattle.std.proofs.lemmas.Option.{slice_get_read}
 use Rattle.std.specs.Prelude.{slice_get, Some}
 use Rattle.link_laws.specs.Making.{names_of}
 use Rattle.link_laws.specs.Stages.{word_end}
-use Rattle.link_core.proofs.StageBodies.{told_here, told_next, told_none}
+use Rattle.step_rule.proofs.AlongLaws.{told_here, told_next, told_none}
 use Rattle.link_core.proofs.StageItems.{word_ends_long, word_there}
 use Rattle.link_core.proofs.stage.word_fault.Goals as goal
 use Rattle.unit_tree.specs.Routes.{routes_of}

@@ -1,9 +1,9 @@
 use Rattle.std.proofs.Common.{◌∙◌, ◌<◌, length, zip, ap, subst, sym, arith}
 use Rattle.std.proofs.lemmas.Slice.Zip.{AllZip-long}
 use Rattle.link_laws.specs.Making.{with_said}
+use Rattle.std.proofs.lemmas.List.{length-map}
 use Rattle.link_core.specs.Noted.{making_in, part_at}
 use Rattle.link_core.proofs.PassBodies.{gone}
-use Rattle.link_core.proofs.StageBodies.{as_many_mapped}
 use Rattle.link_core.proofs.RoomLaws.{room_for, room_set}
 use Rattle.link_core.proofs.StepBodies.{items_long, reply_step}
 use Rattle.link_core.proofs.steps.make_replies.Goals as goal
@@ -15,7 +15,7 @@ use Rattle.unit_tree.specs.Successor.{standings}
 pub index_mut-before-requires : goal.index_mut-before-requires
 index_mut-before-requires c =
     let long = AllZip-long _ c.args.plan.now.run.members _ c.loop-instance.invariant.before in
-    omega (arith, c.loop-instance-test.true, c.instances-instance-end.ensures.count, long, as_many_mapped (λ one. one.items) c.loop-instance.before.items)
+    omega (arith, c.loop-instance-test.true, c.instances-instance-end.ensures.count, long, length-map c.loop-instance.before.items (λ one. one.items))
 
 pub make_reply-requires-clause-before : goal.make_reply-requires-clause-before
 make_reply-requires-clause-before c =
@@ -23,7 +23,7 @@ make_reply-requires-clause-before c =
     let within : c.loop-instance.instance < length run.members = omega (arith, c.loop-instance-test.true, c.instances-instance-end.ensures.count) in
     let long = AllZip-long _ run.members _ c.loop-instance.invariant.before in
     let many : c.loop-instance.instance < length c.loop-instance.before.items =
-    omega (arith, within, long, as_many_mapped (λ one. one.items) c.loop-instance.before.items) in
+    omega (arith, within, long, length-map c.loop-instance.before.items (λ one. one.items)) in
     let have = subst (λ (plan : Planned). HaveStates plan.run c.args.units.now.states) c.requires.tied c.count.ensures.states in
     let had = subst (HaveStates run) (sym (ap (λ (f : Fleet). f.states) c.loop-instance.invariant.kept)) have in
     ap length c.deref_mut.ensures.value
@@ -39,7 +39,7 @@ loop-instance-preserved c =
     let within : c.loop-instance.instance < length run.members = omega (arith, c.loop-instance-test.true, c.instances-instance-end.ensures.count) in
     let room_long = AllZip-long _ run.members _ c.loop-instance.invariant.before in
     let many : c.loop-instance.instance < length c.loop-instance.before.items =
-    omega (arith, within, room_long, as_many_mapped (λ one. one.items) c.loop-instance.before.items) in
+    omega (arith, within, room_long, length-map c.loop-instance.before.items (λ one. one.items)) in
     record {
       going = λ ports fed.
           reply_step run c.args.owners.now c.args.me states c.loop-instance.units.states c.requires.owners long
