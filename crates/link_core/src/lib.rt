@@ -5,8 +5,8 @@
 //! anything changes, so that a call that fails has no effect. A [`Pair`] has both nodes, and is driven by events.
 //!
 //! Facts, the effect of each call of a node, and the laws over every list of events are those of `link_laws`. `specs/NodeStates.antt`
-//! states what contracts see of a node. `specs/Noted.antt`, `specs/Ready.antt`, `specs/Inner.antt` and `specs/Joined.antt` describe how the
-//! code proceeds; no promise depends on them.
+//! states what contracts see of a node. `specs/KnownSteps.antt`, `specs/Noted.antt`, `specs/Ready.antt`, `specs/Inner.antt` and
+//! `specs/Joined.antt` describe how the code proceeds; no promise depends on them.
 #![tactic(auto)]
 
 mod course;
