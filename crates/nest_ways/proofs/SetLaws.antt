@@ -1,13 +1,14 @@
 -- Sets of numbers by words, and inputs by their numbers.
-use Rattle.std.proofs.Common.{◌≡◌, ◌<◌, ◌⊎◌, ℕ, zero, suc, ◌+◌, ◌-◌, ◌*◌, ◌≤◌, List, [], ◌∷◌, ◌++◌, Option, Some, set}
+use Rattle.std.proofs.Common.{◌≡◌, ◌<◌, ◌⊎◌, ◌^◌, ℕ, zero, suc, ◌+◌, ◌-◌, ◌*◌, ◌≤◌, length, List, [], ◌∷◌, ◌++◌, Option, Some, set}
 use Rattle.std.proofs.Common.{refl, sym, ap, ◌∙◌, drop, subst, arith, inl, inr}
 use Rattle.std.specs.Prelude.{bit_or, max, slice_get}
 use Rattle.std.specs.Int.{bit_at}
-use Rattle.std.proofs.lemmas.Bool.{cases_eq}
-use Rattle.std.proofs.lemmas.Nat.Bits.{bit_at-lt, bit_at-zero, bit_at_or, same_from_bits}
+use Rattle.std.proofs.lemmas.Bool.{cases_eq, cases_lt}
+use Rattle.std.proofs.lemmas.Nat.Bits.{bit_at-lt, bit_at-zero, bit_at_above, bit_at_or, same_from_bits, same_from_bits_below}
 use Rattle.std.proofs.lemmas.Option.{same_Some, slice_get_within}
-use Rattle.list_laws.proofs.Members.{at_front, at_push, set_elsewhere, set_there}
-use Rattle.nest_ways.specs.Sets.{AreKeptSets, HasAll, HasAt, HasNumber, HasNumberAt, HasOnly, HasSame, IsAmong, IsInWord, IsKeptSet}
+use Rattle.std.proofs.lemmas.Nat.{same_from_place}
+use Rattle.list_laws.proofs.Members.{at_front, at_place, at_push, set_elsewhere, set_there}
+use Rattle.nest_ways.specs.Sets.{AreKeptSets, HasAll, HasAt, HasNumber, HasNumberAt, HasOnly, HasSame, IsAmong, IsEmpty, IsInWord, IsKeptSet}
 use Rattle.nest_ways.specs.declared.ends.End.{End}
 use Rattle.nest_ways.specs.declared.sets.NumberSet.{NumberSet}
 use Rattle.nest_ways.specs.declared.sets.SetWord.{SetWord}
@@ -46,7 +47,7 @@ set_only words place More old new is less at bit has = by (cases_eq at place)
 
 -- ---- Numbers
 
-dropped : (words : List SetWord) (n k : ℕ) → slice_get (drop n words) k ≡ slice_get words (n + k)
+pub dropped : (words : List SetWord) (n k : ℕ) → slice_get (drop n words) k ≡ slice_get words (n + k)
 dropped words zero k = ap (slice_get words) (let is : k ≡ zero + k = omega arith in is)
 dropped [] (suc n) k = refl
 dropped (word ∷ words) (suc n) k = dropped words n k ∙ ap (slice_get (word ∷ words)) (let is : suc (n + k) ≡ suc n + k = omega arith in is)
@@ -62,30 +63,111 @@ number_to one other ahead start has number held = record {
   is = let told = held.is in omega (arith, told, start);
 }
 
--- One more word of one set is within another.
+-- Words after the first ones.
+pub at_dropped : (words : List SetWord) (n place bit : ℕ) → HasAt (drop n words) place bit → HasAt words (n + place) bit
+at_dropped words n place bit has = (has.0, sym (dropped words n place) ∙ has.1, has.2)
+
+pub dropped_at : (words : List SetWord) (n place bit : ℕ) → HasAt words (n + place) bit → HasAt (drop n words) place bit
+dropped_at words n place bit has = (has.0, dropped words n place ∙ has.1, has.2)
+
+-- One more word is within the other at its place.
+pub within_here : (ones others : List SetWord) (place : ℕ) (one other : SetWord) → slice_get ones place ≡ Some one
+    → ((bit : ℕ) → IsInWord one bit → IsInWord other bit) → ((bit : ℕ) → IsInWord other bit → HasAt others place bit)
+    → ((at bit : ℕ) → at < place → HasAt ones at bit → HasAt others at bit) → (at bit : ℕ) → at < place + 1 → HasAt ones at bit
+    → HasAt others at bit
+within_here ones others place one other is within has before at bit less held = by (cases_eq at place)
+  where
+    by : (at ≡ place) ⊎ (at ≡ place → ⊥) → HasAt others at bit
+    by (inl here) =
+        let same : held.0 ≡ one = same_Some held.0 one (sym held.1 ∙ ap (slice_get ones) here ∙ is) in
+        subst (λ k. HasAt others k bit) (sym here) (has bit (within bit (subst (λ word. IsInWord word bit) same held.2)))
+    by (inr apart) = before at bit (omega (arith, less, apart)) held
+
+-- The same a number of places later.
 pub within_next : (ones others : List SetWord) (place there : ℕ) (ahead : ℕ) (one other : SetWord) → slice_get ones place ≡ Some one → there ≡ ahead + place
     → ((bit : ℕ) → IsInWord one bit → IsInWord other bit) → ((bit : ℕ) → IsInWord other bit → HasAt others there bit)
     → ((at bit : ℕ) → at < place → HasAt ones at bit → HasAt others (ahead + at) bit) → (at bit : ℕ) → at < place + 1 → HasAt ones at bit
     → HasAt others (ahead + at) bit
-within_next ones others place there ahead one other is far within has before at bit less held = by (cases_eq at place)
-  where
-    by : (at ≡ place) ⊎ (at ≡ place → ⊥) → HasAt others (ahead + at) bit
-    by (inl here) =
-        let same : held.0 ≡ one = same_Some held.0 one (sym held.1 ∙ ap (slice_get ones) here ∙ is) in
-        subst (λ k. HasAt others k bit) (far ∙ ap (λ k. ahead + k) (sym here)) (has bit (within bit (subst (λ word. IsInWord word bit) same held.2)))
-    by (inr apart) = before at bit (omega (arith, less, apart)) held
+within_next ones others place there ahead one other is far within has before at bit less held =
+    at_dropped others ahead at bit
+    (within_here ones (drop ahead others) place one other is within
+    (λ b in_other. dropped_at others ahead place b (subst (λ k. HasAt others k b) far (has b in_other)))
+    (λ k b low own. dropped_at others ahead k b (before k b low own)) at bit less held)
 
--- A word without a bit.
-pub empty_next : (words : List SetWord) (place : ℕ) (word : SetWord) → slice_get words place ≡ Some word → word.bits ≡ 0
+-- An empty word.
+pub empty_next : (words : List SetWord) (place : ℕ) (word : SetWord) → slice_get words place ≡ Some word → IsEmpty word
     → ((at bit : ℕ) → HasAt words at bit → place ≤ at) → (at bit : ℕ) → HasAt words at bit → place + 1 ≤ at
 empty_next words place word is none least at bit has = by (cases_eq at place)
   where
     by : (at ≡ place) ⊎ (at ≡ place → ⊥) → place + 1 ≤ at
     by (inl here) =
         let same : has.0 ≡ word = same_Some has.0 word (sym has.1 ∙ ap (slice_get words) here ∙ is) in
-        let never = sym (bit_at-zero bit) ∙ sym (ap (λ bits. bit_at bits bit) none) ∙ subst (λ each. IsInWord each bit) same has.2 in
-        absurd (omega (arith, never))
+        absurd (none bit (subst (λ each. IsInWord each bit) same has.2))
     by (inr apart) = let low = least at bit has in omega (arith, low, apart)
+
+-- All words before a place are empty, by how many are empty before the first that isn't.
+pub all_before : (words : List SetWord) (empty place : ℕ) → ((at bit : ℕ) → HasAt words at bit → empty ≤ at) → empty ≡ length words
+    → (at bit : ℕ) → HasAt words at bit → place ≤ at
+all_before words empty place least end at bit has =
+    let low = least at bit has in
+    let within = slice_get_within words at has.0 has.1 in
+    absurd (omega (arith, low, end, within))
+
+pub first_before : (words : List SetWord) (empty place : ℕ) → ((word : SetWord) → slice_get words empty ≡ Some word → IsEmpty word → ⊥)
+    → empty < length words → ((at bit : ℕ) → HasAt words at bit → place ≤ at) → place ≤ empty
+first_before words empty place first within before = by (cases_lt empty place)
+  where
+    here : (word : SetWord) × (slice_get words empty ≡ Some word)
+    here = at_place words empty within
+
+    by : (empty < place) ⊎ (place ≤ empty) → place ≤ empty
+    by (inl less) =
+        absurd
+        (first here.0 here.1
+        (λ bit is. let far = before empty bit (here.0, here.1, is) in omega (arith, less, far)))
+    by (inr enough) = enough
+
+-- ---- Sets that are within others
+
+-- The place and the bit of a number are those by which another set has it.
+same_number : (one other : NumberSet) (place bit : ℕ) → HasAt one.words.items place bit
+    → (held : HasNumber other ((one.start + place) * 64 + bit)) → (one.start + place ≡ other.start + held.place) × (bit ≡ held.bit)
+same_number one other place bit has held =
+    same_from_place (one.start + place) bit (other.start + held.place) held.bit 64 has.2.0 held.has.2.0 held.is
+
+pub set_within : (one other : NumberSet) (before ahead : ℕ) → before ≡ other.start - one.start → ahead ≡ one.start - other.start
+    → ((place bit : ℕ) → HasAt one.words.items place bit → before ≤ place)
+    → ((place bit : ℕ) → HasAt (drop before one.words.items) place bit → HasAt (drop ahead other.words.items) place bit) → (number : ℕ)
+    → HasNumber one number → HasNumber other number
+set_within one other before ahead before_is ahead_is empty within number held =
+    let low = empty held.place held.bit held.has in
+    let is = held.is in
+    let place : held.place ≡ before + (held.place - before) = omega (arith, low) in
+    let own = dropped_at one.words.items before (held.place - before) held.bit (subst (λ k. HasAt one.words.items k held.bit) place held.has) in
+    let there = at_dropped other.words.items ahead (held.place - before) held.bit (within (held.place - before) held.bit own) in record {
+      place = ahead + (held.place - before);
+      bit = held.bit;
+      has = there;
+      is = omega (arith, is, low, before_is, ahead_is);
+    }
+
+pub within_empty : (one other : NumberSet) (before : ℕ) → before ≡ other.start - one.start
+    → ((number : ℕ) → HasNumber one number → HasNumber other number) → (place bit : ℕ) → HasAt one.words.items place bit → before ≤ place
+within_empty one other before before_is all place bit has =
+    let held = all ((one.start + place) * 64 + bit) (record { place = place; bit = bit; has = has; is = refl }) in
+    let same = (same_number one other place bit has held).0 in omega (arith, same, before_is)
+
+pub within_dropped : (one other : NumberSet) (before ahead : ℕ) → before ≡ other.start - one.start → ahead ≡ one.start - other.start
+    → ((number : ℕ) → HasNumber one number → HasNumber other number) → (place bit : ℕ) → HasAt (drop before one.words.items) place bit
+    → HasAt (drop ahead other.words.items) place bit
+within_dropped one other before ahead before_is ahead_is all place bit has =
+    let own = at_dropped one.words.items before place bit has in
+    let held = all ((one.start + (before + place)) * 64 + bit) (record { place = before + place; bit = bit; has = own; is = refl }) in
+    let same = same_number one other (before + place) bit own held in
+    let first = same.0 in
+    let there : held.place ≡ ahead + place = omega (arith, first, before_is, ahead_is) in
+    dropped_at other.words.items ahead place bit
+    (subst (λ k. HasAt other.words.items k bit) there (subst (λ b. HasAt other.words.items held.place b) (sym same.1) held.has))
 
 -- A word with one bit more.
 pub number_only : (old new : NumberSet) (place bit number : ℕ) → new.start ≡ old.start → number ≡ (old.start + place) * 64 + bit
@@ -134,6 +216,14 @@ trimmed_same words one made empty of start left least number = (back, there)
           );
           is = omega (arith, is, start, low);
         }
+
+-- The first word that is left isn't empty, where no more words could be left out.
+pub trimmed_first : (words left : List SetWord) (empty : ℕ) → left ≡ drop empty words
+    → ((word : SetWord) → slice_get words empty ≡ Some word → IsEmpty word → ⊥) → (word : SetWord) → slice_get left 0 ≡ Some word → IsEmpty word → ⊥
+trimmed_first words left empty is first word at =
+    let here : empty + 0 ≡ empty = omega arith in
+    first word
+    (ap (slice_get words) (sym here) ∙ sym (dropped words empty 0) ∙ ap (λ those. slice_get those 0) (sym is) ∙ at)
 
 -- Only numbers of a word of another set are added.
 pub word_comes : (old new other : NumberSet) (word : SetWord) (ahead place there : ℕ) → new.start ≡ old.start → other.start ≡ old.start + ahead
@@ -195,28 +285,53 @@ sets_with numbered all old new input made are own from other one found = by (fro
 
 pub word_within : (one other : SetWord) → bit_or one.bits other.bits ≡ other.bits → (number : ℕ) → IsInWord one number → IsInWord other number
 word_within one other same number is =
-    sym (ap (λ bits. bit_at bits number) same) ∙ omega (arith, is, bit_at_or one.bits other.bits number, bit_at-lt other.bits number)
+    let bit = is.1 in (
+      is.0,
+      sym (ap (λ bits. bit_at bits number) same) ∙ omega (arith, bit, bit_at_or one.bits other.bits number, bit_at-lt other.bits number),
+    )
 
-pub word_either : (one other : SetWord) (number : ℕ) → bit_at (bit_or one.bits other.bits) number ≡ 1 → IsInWord one number ⊎ IsInWord other number
+pub word_either : (one other : SetWord) (number : ℕ) → (number < 64) × (bit_at (bit_or one.bits other.bits) number ≡ 1)
+    → IsInWord one number ⊎ IsInWord other number
 word_either one other number is = by (cases_eq (bit_at one.bits number) 1)
   where
-    by : IsInWord one number ⊎ (IsInWord one number → ⊥) → IsInWord one number ⊎ IsInWord other number
-    by (inl here) = inl here
+    by : (bit_at one.bits number ≡ 1) ⊎ (bit_at one.bits number ≡ 1 → ⊥) → IsInWord one number ⊎ IsInWord other number
+    by (inl here) = inl (is.0, here)
     by (inr not_here) =
-        inr (omega (arith, is, not_here, bit_at_or one.bits other.bits number, bit_at-lt one.bits number, bit_at-lt other.bits number))
+        let bit = is.1 in
+        inr (is.0, omega (arith, bit, not_here, bit_at_or one.bits other.bits number, bit_at-lt one.bits number, bit_at-lt other.bits number))
 
 -- Each number of one word is in the other: the bits of both are those of the other.
-pub word_covers : (one other : SetWord) → ((number : ℕ) → IsInWord one number → IsInWord other number) → bit_or one.bits other.bits ≡ other.bits
-word_covers one other within = same_from_bits (bit_or one.bits other.bits) other.bits (λ number. bit_at_or one.bits other.bits number ∙ by number (cases_eq (bit_at one.bits number) 1))
+pub word_covers : (one other : SetWord) → one.bits < 2 ^ 64 → ((number : ℕ) → IsInWord one number → IsInWord other number)
+    → bit_or one.bits other.bits ≡ other.bits
+word_covers one other fits within =
+    same_from_bits (bit_or one.bits other.bits) other.bits (λ number. bit_at_or one.bits other.bits number ∙ by number (cases_eq (bit_at one.bits number) 1) (cases_lt number 64))
   where
-    by : (number : ℕ) → IsInWord one number ⊎ (IsInWord one number → ⊥) → max (bit_at one.bits number) (bit_at other.bits number) ≡ bit_at other.bits number
-    by number (inl here) = let there = within number here in omega (arith, here, there)
-    by number (inr not_here) = omega (arith, not_here, bit_at-lt one.bits number)
+    by : (number : ℕ) → (bit_at one.bits number ≡ 1) ⊎ (bit_at one.bits number ≡ 1 → ⊥) → (number < 64) ⊎ (64 ≤ number)
+        → max (bit_at one.bits number) (bit_at other.bits number) ≡ bit_at other.bits number
+    by number (inl here) (inl low) = let there = (within number (low, here)).1 in omega (arith, here, there)
+    by number (inl here) (inr high) = let none = bit_at_above one.bits 64 number fits high in absurd (omega (arith, here, none))
+    by number (inr not_here) _ = omega (arith, not_here, bit_at-lt one.bits number)
 
 -- A number of either word is one of both.
-pub either_word : (one other : SetWord) (number : ℕ) → IsInWord one number ⊎ IsInWord other number → bit_at (bit_or one.bits other.bits) number ≡ 1
-either_word one other number (inl is) = omega (arith, is, bit_at_or one.bits other.bits number, bit_at-lt other.bits number)
-either_word one other number (inr is) = omega (arith, is, bit_at_or one.bits other.bits number, bit_at-lt one.bits number)
+pub either_word : (one other : SetWord) (number : ℕ) → IsInWord one number ⊎ IsInWord other number
+    → (number < 64) × (bit_at (bit_or one.bits other.bits) number ≡ 1)
+either_word one other number (inl is) =
+    let bit = is.1 in (is.0, omega (arith, bit, bit_at_or one.bits other.bits number, bit_at-lt other.bits number))
+either_word one other number (inr is) =
+    let bit = is.1 in (is.0, omega (arith, bit, bit_at_or one.bits other.bits number, bit_at-lt one.bits number))
+
+-- A word is empty where none of its bits is set.
+pub no_bits : (word : SetWord) → word.bits ≡ 0 → IsEmpty word
+no_bits word none number is =
+    let bit = sym (bit_at-zero number) ∙ sym (ap (λ bits. bit_at bits number) none) ∙ is.1 in absurd (omega (arith, bit))
+
+pub empty_bits : (word : SetWord) → word.bits < 2 ^ 64 → IsEmpty word → word.bits ≡ 0
+empty_bits word fits none =
+    same_from_bits_below 64 word.bits 0 fits (omega arith)
+    (λ number low. by number (λ is. none number (low, is)))
+  where
+    by : (number : ℕ) → (bit_at word.bits number ≡ 1 → ⊥) → bit_at word.bits number ≡ bit_at 0 number
+    by number not_here = omega (arith, not_here, bit_at-lt word.bits number, bit_at-zero number)
 
 -- ---- What was added from scopes
 

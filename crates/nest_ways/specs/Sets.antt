@@ -1,5 +1,5 @@
 -- Sets of numbers, and the numbers of inputs of components that are kept.
-use Rattle.std.specs.Prelude.{◌≡◌, ◌↔◌, ◌+◌, ◌*◌, ℕ, List, Option, Some, slice_get}
+use Rattle.std.specs.Prelude.{◌≡◌, ◌↔◌, ◌⊎◌, ◌+◌, ◌-◌, ◌*◌, ◌^◌, ◌<◌, ◌≤◌, ℕ, List, [], Option, Some, slice_get}
 use Rattle.std.specs.Int.{bit_at}
 use Rattle.nest_ways.specs.declared.ends.End.{End}
 use Rattle.nest_ways.specs.declared.numbers.KeptSets.{KeptSets}
@@ -11,7 +11,11 @@ use Rattle.nest_ways.specs.declared.steps.Known.{Known}
 
 -- The word has the number, which is below 64.
 abbrev pub IsInWord : SetWord → ℕ → Type 0
-IsInWord word number = bit_at word.bits number ≡ 1
+IsInWord word number = (number < 64) × (bit_at word.bits number ≡ 1)
+
+-- The word has no number.
+abbrev pub IsEmpty : SetWord → Type 0
+IsEmpty word = (number : ℕ) → IsInWord word number → ⊥
 
 -- The word at the place has the number.
 abbrev pub HasAt : List SetWord → ℕ → ℕ → Type 0
@@ -33,11 +37,31 @@ pub record HasNumber (set : NumberSet) (number : ℕ) : Type 0 where
 abbrev pub HasSame : NumberSet → NumberSet → Type 0
 HasSame one other = (number : ℕ) → HasNumber one number ↔ HasNumber other number
 
+-- The first word of the set has a number, unless the set begins where no later start can be written.
+abbrev pub IsTrimmed : NumberSet → Type 0
+IsTrimmed set = (word : SetWord) → slice_get set.words.items 0 ≡ Some word → set.start < 2 ^ 64 - 1 → IsEmpty word → ⊥
+
+-- The number isn't below those of the set's first word.
+abbrev pub HasRoomFor : NumberSet → ℕ → Type 0
+HasRoomFor set number = set.start * 64 ≤ number
+
+-- The set has no words yet, or its words begin no later than those of the other set.
+abbrev pub HasRoomForAll : NumberSet → NumberSet → Type 0
+HasRoomForAll set other = (set.words.items ≡ []) ⊎ (set.start ≤ other.start)
+
+-- There is a set at the place, with room for the numbers of the other set.
+abbrev pub HasRoomAt : List NumberSet → ℕ → NumberSet → Type 0
+HasRoomAt sets place other = (set : NumberSet) × (slice_get sets place ≡ Some set) × HasRoomForAll set other
+
 -- The set at the place has the number.
 abbrev pub HasNumberAt : List NumberSet → ℕ → ℕ → Type 0
 HasNumberAt sets place number = (set : NumberSet) × (slice_get sets place ≡ Some set) × HasNumber set number
 
 -- ---- Inputs by numbers
+
+-- The most inputs of components that get numbers for one group.
+abbrev pub most_numbers : ℕ
+most_numbers = 8 * 2048
 
 -- The input is in the list.
 abbrev pub IsAmong : End → List End → Type 0

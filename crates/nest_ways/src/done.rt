@@ -22,7 +22,8 @@ pub struct DoneInputs {
 impl DoneInputs {
     /// Returns the sets for `count` inputs, none of which is finished in any scope.
     pub(crate) fn new(alloc: Global, count: usize) -> Result<DoneInputs, NoMemory>
-        ensures { IfOk result (λ made. AreEmpty made.sets.items) }
+        ensures count { IfOk result (λ made. length made.sets.items ≡ count) }
+        ensures none { IfOk result (λ made. AreEmpty made.sets.items) }
     {
         let mut sets = Vec::with_capacity(alloc, count)?;
         for _ in 0..count {

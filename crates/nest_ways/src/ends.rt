@@ -1,5 +1,5 @@
 //! Inputs of components by numbers, each added to a list once.
-ghost use Rattle.std.specs.Prelude.{◌≡◌, ◌++◌, List, Some, IfOk, IsTrue, OnOk, map, slice_get};
+ghost use Rattle.std.specs.Prelude.{◌≡◌, ◌↔◌, ◌≤◌, ◌++◌, List, length, Some, IfOk, IsTrue, OnOk, map, slice_get};
 ghost use Rattle.std.specs.List.{flat_map};
 ghost use Rattle.std.specs.Option.{option_map, unwrap_or};
 ghost use Rattle.nest_ways.specs.Reaching.{PutsIf, PutsOnce, PutsUpTo, ReadsAlike, SameKept, onward};
@@ -23,7 +23,7 @@ pub struct End {
 /// Whether an input is at a place of a list.
 #[inline(always)]
 pub(crate) fn is_at(ends: &[End], place: usize, end: End) -> bool
-    ensures { IsTrue result → slice_get ends.now place ≡ Some end }
+    ensures { IsTrue result ↔ (slice_get ends.now place ≡ Some end) }
 {
     match at(ends, place) {
         Some(other) => other.scope == end.scope && other.line == end.line,
@@ -52,7 +52,8 @@ pub(crate) fn put_within(
     end: End,
     ends: &mut List<End>,
 ) -> Result<bool, NoMemory>
-    ensures { IfOk result (λ whole. PutsIf whole end ends.old ends.new) }
+    ensures room { IfOk result (λ whole. IsTrue whole ↔ (length ends.old ≤ most)) }
+    ensures puts { IfOk result (λ whole. PutsIf whole end ends.old ends.new) }
 {
     if ends.len() > most {
         return Ok(false);

@@ -4,9 +4,9 @@
 //! these. The numbers of one group follow each other. The proof needs only that each number has one input, counted from
 //! a scope of the group. An input without a set, or with a set that is never found to be complete, is added again from
 //! each scope. This takes long and changes nothing.
-ghost use Rattle.std.specs.Prelude.{◌≡◌, ◌↔◌, ◌⊎◌, ◌++◌, ℕ, List, Some, IfOk, IsTrue, OnOk, slice_get};
+ghost use Rattle.std.specs.Prelude.{◌≡◌, ◌↔◌, ◌⊎◌, ◌++◌, ◌+◌, ◌<◌, ◌≤◌, ℕ, List, None, Some, IfOk, IsTrue, OnOk, length, slice_get};
 ghost use Rattle.std.specs.Option.{option_map};
-ghost use Rattle.nest_ways.specs.Sets.{AreKeptSets, KeepsByNumbers, HasAll, HasNumber, HasOnly, HasNumberAt};
+ghost use Rattle.nest_ways.specs.Sets.{AreKeptSets, KeepsByNumbers, HasAll, HasNumber, HasOnly, HasNumberAt, HasRoomAt, most_numbers};
 ghost use Rattle.nest_ways.specs.declared.ends.End.{End as Ends};
 ghost use Rattle.nest_ways.specs.declared.sets.NumberSet.{NumberSet as NumberSets};
 
@@ -43,7 +43,9 @@ fn number_end(
     end: End,
     numbered: &mut List<End>,
 ) -> Result<Option<usize>, NoMemory>
-    ensures found { IfOk result (λ told. (number : ℕ) → told ≡ Some number → slice_get numbered.new number ≡ Some end) }
+    requires { first ≤ length numbered.old }
+    ensures found { IfOk result (λ told. (number : ℕ) → told ≡ Some number → (first ≤ number) × (slice_get numbered.new number ≡ Some end)) }
+    ensures none { IfOk result (λ told. told ≡ None → first + most_numbers ≤ length numbered.new) }
     ensures still { OnOk result ((rest : List Ends) × (numbered.new ≡ numbered.old ++ rest)) }
 {
     let number = guide.place_of(end);
@@ -51,7 +53,7 @@ fn number_end(
         return Ok(Some(number));
     }
     let next = numbered.len();
-    if next >= first.saturating_add(MOST_NUMBERS) {
+    if next.saturating_sub(first) >= MOST_NUMBERS {
         return Ok(None);
     }
     guide.note_place(end, next);
@@ -67,7 +69,9 @@ fn numbers_of(
     kept: &[End],
     numbered: &mut List<End>,
 ) -> Result<Option<NumberSet>, NoMemory>
+    requires { first ≤ length numbered.old }
     ensures has { IfOk result (λ made. (set : NumberSets) → made ≡ Some set → HasAll numbered.new set kept.now × HasOnly numbered.new set kept.now) }
+    ensures none { IfOk result (λ made. made ≡ None → first + most_numbers ≤ length numbered.new) }
     ensures still { OnOk result ((rest : List Ends) × (numbered.new ≡ numbered.old ++ rest)) }
 {
     let mut set = NumberSet::new(alloc, first);
@@ -75,16 +79,15 @@ fn numbers_of(
         let Some(number) = number_end(guide, first, *end, numbered)? else {
             return Ok(None);
         };
-        if !set.put(number)? {
-            return Ok(None);
-        }
+        set.put(number)?;
     }
-    set.trimmed()
+    Ok(Some(set.trimmed()?))
 }
 
 /// Sets the set at a place, if there is such a place.
 fn set_at(sets: &mut Vec<Option<NumberSet>>, place: usize, set: Option<NumberSet>)
-    ensures { (other : ℕ) (one : NumberSets) → slice_get sets.new.items other ≡ Some (Some one)
+    ensures there { place < length sets.old.items → slice_get sets.new.items place ≡ Some set }
+    ensures only { (other : ℕ) (one : NumberSets) → slice_get sets.new.items other ≡ Some (Some one)
         → ((other ≡ place) × (set ≡ Some one)) ⊎ (slice_get sets.old.items other ≡ Some (Some one)) }
 {
     if place < sets.len() {
@@ -171,7 +174,8 @@ fn inputs_of_groups(
 
 /// Returns the list for `count` inputs, none of which has a set.
 fn no_sets(alloc: Global, count: usize) -> Result<Vec<Option<NumberSet>>, NoMemory>
-    ensures { IfOk result (λ made. (place : ℕ) (set : NumberSets) → slice_get made.items place ≡ Some (Some set) → ⊥) }
+    ensures count { IfOk result (λ made. length made.items ≡ count) }
+    ensures none { IfOk result (λ made. (place : ℕ) (set : NumberSets) → slice_get made.items place ≡ Some (Some set) → ⊥) }
 {
     let mut sets = Vec::with_capacity(alloc, count)?;
     for _ in 0..count {
@@ -224,7 +228,8 @@ pub struct PutSets {
 impl PutSets {
     /// Returns the sets of `count` scopes, all empty.
     pub(crate) fn new(alloc: Global, count: usize) -> Result<PutSets, NoMemory>
-        ensures { IfOk result (λ made. (scope number : ℕ) → HasNumberAt made.sets.items scope number → ⊥) }
+        ensures count { IfOk result (λ made. length made.sets.items ≡ count) }
+        ensures none { IfOk result (λ made. (scope number : ℕ) → HasNumberAt made.sets.items scope number → ⊥) }
     {
         let mut sets = Vec::with_capacity(alloc, count)?;
         for _ in 0..count {
@@ -233,9 +238,10 @@ impl PutSets {
         Ok(PutSets { sets })
     }
 
-    /// Whether all numbers of a set were added from a scope.
+    /// Whether there is such a scope, from which all numbers of a set were added.
     pub(crate) fn has(&self, scope: usize, set: &NumberSet) -> bool
-        ensures { IsTrue result → (number : ℕ) → HasNumber set.now number → HasNumberAt self.now.sets.items scope number }
+        ensures { IsTrue result ↔ ((scope < length self.now.sets.items)
+            × ((number : ℕ) → HasNumber set.now number → HasNumberAt self.now.sets.items scope number)) }
     {
         match at(self.sets.as_slice(), scope) {
             Some(own) => set.is_within(own),
@@ -245,6 +251,7 @@ impl PutSets {
 
     /// Adds the numbers of a set to those of a scope, if there is such a scope and room for them. Returns whether it did.
     pub(crate) fn put(&mut self, scope: usize, set: &NumberSet) -> Result<bool, NoMemory>
+        ensures room { IfOk result (λ told. IsTrue told ↔ HasRoomAt self.old.sets.items scope set.now) }
         ensures there { IfOk result (λ told. IsTrue told → (number : ℕ) → HasNumber set.now number → HasNumberAt self.new.sets.items scope number) }
         ensures still { OnOk result ((other number : ℕ) → HasNumberAt self.old.sets.items other number → HasNumberAt self.new.sets.items other number) }
         ensures only { OnOk result ((other number : ℕ) → HasNumberAt self.new.sets.items other number

@@ -1,13 +1,13 @@
 //! Sets of numbers, as words of 64 bits.
-ghost use Rattle.std.specs.Prelude.{◌≡◌, ◌↔◌, ◌⊎◌, ◌<◌, ◌≤◌, ℕ, length, Some, IfOk, IsTrue, OnOk};
-ghost use Rattle.nest_ways.specs.Sets.{HasAt, HasNumber, HasSame, IsInWord};
-ghost use Rattle.nest_ways.specs.declared.sets.NumberSet.{NumberSet as NumberSets};
+ghost use Rattle.std.specs.Prelude.{◌≡◌, ◌↔◌, ◌⊎◌, ◌+◌, ◌<◌, ◌≤◌, ℕ, drop, length, Some, IfOk, IsTrue, OnOk, slice_get};
+ghost use Rattle.nest_ways.specs.Sets.{HasAt, HasNumber, HasRoomFor, HasRoomForAll, HasSame, IsEmpty, IsInWord, IsTrimmed};
+ghost use Rattle.nest_ways.specs.declared.sets.SetWord.{SetWord as SetWords};
 
 use crate::numbers::MOST_NUMBERS;
 use fixed_words::NoMemory;
 use nest_names::at;
 use smallvec::SmallVec;
-use std::alloc::Global;
+use std::alloc::{AllocError, Global};
 
 /// How many numbers a word is for.
 pub(crate) const WORD_BITS: u32 = 64;
@@ -28,9 +28,16 @@ impl Default for SetWord {
 impl SetWord {
     /// None of the numbers.
     pub(crate) fn empty() -> SetWord
-        ensures { (number : ℕ) → IsInWord result number → ⊥ }
+        ensures { IsEmpty result }
     {
         SetWord { bits: 0 }
+    }
+
+    /// Whether it has none of the numbers.
+    fn is_empty(self) -> bool
+        ensures { IsTrue result ↔ IsEmpty self }
+    {
+        self.bits == 0
     }
 
     /// Whether a number is in the set.
@@ -138,20 +145,52 @@ fn put_word(words: &mut Words, place: usize, more: SetWord)
 /// How many words are empty before the first that isn't.
 fn empty_before(words: &[SetWord]) -> usize
     ensures least { (place bit : ℕ) → HasAt words.now place bit → result ≤ place }
+    ensures first { (word : SetWords) → slice_get words.now result ≡ Some word → IsEmpty word → ⊥ }
     ensures within { result ≤ length words.now }
 {
     for (place, word) in words.iter().enumerate() {
-        if word.bits != 0 {
+        if !word.is_empty() {
             return place;
         }
     }
     words.len()
 }
 
+/// Whether all words before a place are empty.
+fn are_empty_before(words: &[SetWord], place: usize) -> bool
+    ensures { IsTrue result ↔ ((at bit : ℕ) → HasAt words.now at bit → place ≤ at) }
+{
+    let empty = empty_before(words);
+    empty >= place || empty == words.len()
+}
+
+/// The words from a place on.
+fn words_from(words: &[SetWord], place: usize) -> &[SetWord]
+    ensures { result.now ≡ drop place words.now }
+{
+    if place >= words.len() {
+        return &[];
+    }
+    words.split_at(place).1
+}
+
+/// Whether all numbers of words are in other words, at the same places.
+fn are_within(ones: &[SetWord], others: &[SetWord]) -> bool
+    ensures { IsTrue result ↔ ((place bit : ℕ) → HasAt ones.now place bit → HasAt others.now place bit) }
+{
+    for (place, word) in ones.iter().enumerate() {
+        if !word.is_within(word_at(others, place)) {
+            return false;
+        }
+    }
+    true
+}
+
 impl NumberSet {
     /// Returns an empty set, with room for numbers from `first` on.
     pub(crate) fn new(alloc: Global, first: usize) -> NumberSet
-        ensures { (number : ℕ) → HasNumber result number → ⊥ }
+        ensures none { (number : ℕ) → HasNumber result number → ⊥ }
+        ensures room { (number : ℕ) → first ≤ number → HasRoomFor result number }
     {
         NumberSet {
             start: first / 64,
@@ -159,55 +198,52 @@ impl NumberSet {
         }
     }
 
-    /// Adds a number, if there is room for it. Returns whether it did.
-    pub(crate) fn put(&mut self, number: usize) -> Result<bool, NoMemory>
-        ensures there { IfOk result (λ told. IsTrue told → HasNumber self.new number) }
+    /// Adds a number.
+    pub(crate) fn put(&mut self, number: usize) -> Result<(), NoMemory>
+        requires { HasRoomFor self.old number }
+        ensures there { OnOk result (HasNumber self.new number) }
         ensures still { OnOk result ((one : ℕ) → HasNumber self.old one → HasNumber self.new one) }
         ensures only { OnOk result ((one : ℕ) → HasNumber self.new one → (one ≡ number) ⊎ HasNumber self.old one) }
+        ensures room { OnOk result ((one : ℕ) → HasRoomFor self.old one → HasRoomFor self.new one) }
     {
-        let Some(place) = (number / 64).checked_sub(self.start) else {
-            return Ok(false);
-        };
+        let place = number / 64 - self.start;
         grow_to(&mut self.words, place)?;
         put_bit(&mut self.words, place, (number % 64) as u32);
-        Ok(true)
+        Ok(())
     }
 
-    /// The same numbers, without empty words before the first one.
-    pub(crate) fn trimmed(&self) -> Result<Option<NumberSet>, NoMemory>
-        ensures { IfOk result (λ told. (made : NumberSets) → told ≡ Some made → HasSame made self.now) }
+    /// The same numbers, without empty words before the first one, as far as its start is a `usize`.
+    pub(crate) fn trimmed(&self) -> Result<NumberSet, NoMemory>
+        ensures same { IfOk result (λ made. HasSame made self.now) }
+        ensures first { IfOk result (λ made. IsTrimmed made) }
     {
-        let empty = empty_before(self.words.as_slice());
-        let Some(start) = self.start.checked_add(empty) else {
-            return Ok(None);
-        };
+        let empty = empty_before(self.words.as_slice()).min(usize::MAX - self.start);
+        let start = self.start + empty;
         let words = SmallVec::from_slice(*self.words.allocator(), &self.words.as_slice()[empty..])?;
-        Ok(Some(NumberSet { start, words }))
+        Ok(NumberSet { start, words })
     }
 
-    /// Whether all its numbers are in another set. It may also answer no where they are, if its words begin before those of the
-    /// other set; then what is kept is added again.
+    /// Whether all its numbers are in another set.
     pub(crate) fn is_within(&self, other: &NumberSet) -> bool
-        ensures { IsTrue result → (number : ℕ) → HasNumber self.now number → HasNumber other.now number }
+        ensures { IsTrue result ↔ ((number : ℕ) → HasNumber self.now number → HasNumber other.now number) }
     {
-        let Some(ahead) = self.start.checked_sub(other.start) else {
+        let before = other.start.saturating_sub(self.start);
+        let ahead = self.start.saturating_sub(other.start);
+        let words = self.words.as_slice();
+        if !are_empty_before(words, before) {
             return false;
-        };
-        for (place, word) in self.words.as_slice().iter().enumerate() {
-            let Some(there) = ahead.checked_add(place) else {
-                return false;
-            };
-            if !word.is_within(word_at(other.words.as_slice(), there)) {
-                return false;
-            }
         }
-        true
+        are_within(
+            words_from(words, before),
+            words_from(other.words.as_slice(), ahead),
+        )
     }
 
     /// Chooses how many words are left out, if the set has no words yet, so that there is room for all numbers of the
     /// group.
     fn begin(&mut self, set: &NumberSet)
-        ensures { (number : ℕ) → HasNumber self.new number ↔ HasNumber self.old number }
+        ensures same { (number : ℕ) → HasNumber self.new number ↔ HasNumber self.old number }
+        ensures room { HasRoomForAll self.old set.now ↔ (self.new.start ≤ set.now.start) }
     {
         if self.words.is_empty() {
             self.start = set.start.saturating_sub(MOST_WORDS);
@@ -217,6 +253,7 @@ impl NumberSet {
     /// Adds all numbers of another set of the same group, if there is room for them. Returns whether it did. There is no room where
     /// the words of the other set begin earlier; those of a set of the same group don't.
     pub(crate) fn put_all(&mut self, set: &NumberSet) -> Result<bool, NoMemory>
+        ensures room { IfOk result (λ told. IsTrue told ↔ HasRoomForAll self.old set.now) }
         ensures there { IfOk result (λ told. IsTrue told → (number : ℕ) → HasNumber set.now number → HasNumber self.new number) }
         ensures still { OnOk result ((number : ℕ) → HasNumber self.old number → HasNumber self.new number) }
         ensures only { OnOk result ((number : ℕ) → HasNumber self.new number → HasNumber set.now number ⊎ HasNumber self.old number) }
@@ -227,7 +264,7 @@ impl NumberSet {
         };
         for (place, word) in set.words.as_slice().iter().enumerate() {
             let Some(there) = ahead.checked_add(place) else {
-                return Ok(false);
+                return Err(AllocError);
             };
             grow_to(&mut self.words, there)?;
             put_word(&mut self.words, there, *word);

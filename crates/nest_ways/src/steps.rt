@@ -1,5 +1,5 @@
 //! The steps of inputs of groups, by numbers, so that each name is looked up once.
-ghost use Rattle.std.specs.Prelude.{◌≡◌, ◌∷◌, [], ℕ, List, None, Some, IfOk, slice_get};
+ghost use Rattle.std.specs.Prelude.{◌≡◌, ◌↔◌, ◌∷◌, [], ℕ, List, None, Some, IfOk, slice_get};
 ghost use Rattle.nest_names.specs.Flattening.{place_at};
 ghost use Rattle.nest_names.specs.declared.scope.GroupScope.{GroupScope};
 ghost use Rattle.nest_ways.specs.Reaching.{AreKnown, AreSteps, FindsKnown, IsPast, IsStep, ins_of, lines_of};
@@ -62,7 +62,7 @@ pub struct Known<'n> {
 
 /// The only step of an input, if it has one step and this leads into a group.
 pub(crate) fn only_inside(steps: &[Step]) -> Option<Inside>
-    ensures { (inside : _) → result ≡ Some inside → steps.now ≡ step_is.Inside inside ∷ [] }
+    ensures { (inside : _) → (result ≡ Some inside) ↔ (steps.now ≡ step_is.Inside inside ∷ []) }
 {
     if steps.len() != 1 {
         return None;

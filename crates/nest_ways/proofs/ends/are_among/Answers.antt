@@ -17,5 +17,5 @@ loop-end-preserved c input reads =
     ap (λ scope. input (record { scope = scope; line = end.line })) c.first_same-scope.ensures
     ∙ first_input input firsts c.in-Some.scope end.line reads in
     onward_next input c.args.offset ends ends ends inner c.loop-end.end-index none one c.loop-end-test.true
-    (inr (refl, c.place_of.result, c.is_at.ensures c.if-not-is_at.false))
+    (inr (refl, c.place_of.result, c.is_at.ensures.0 c.if-not-is_at.false))
     (at ∙ ap (λ scope. input (record { scope = scope; line = end.line })) onward) (c.loop-end.invariant input reads)

@@ -23,7 +23,7 @@ returns-in-Component c =
     let end : End = record { scope = 0; line = c.in-Component.line } in
     ok_more (λ whole. PutsIf whole end old new)
     (λ whole. (nest : Nest) (height : ℕ) (bind : Bind) → AreKnown nest scopes all → IsStep nest scopes all group height c.args.step bind → IsTrue whole
-    → Puts nest scopes group height old new (bind ∷ [])) c.put_within.result c.put_within.ensures
+    → Puts nest scopes group height old new (bind ∷ [])) c.put_within.result c.put_within.ensures.puts
     (λ whole puts nest height bind are is told.
     let leads : LeadsHere nest group c.in-Component.line bind = subst (λ step. IsStep nest scopes all group height step bind) c.in-Component.is is in
     puts_component nest scopes group height bind end old new refl leads (subst (λ w. PutsIf w end old new) told puts))

@@ -1,4 +1,4 @@
-use Rattle.std.proofs.Common.{◌≡◌, ◌∙◌, Some, ap, get_or, subst, sym}
+use Rattle.std.proofs.Common.{◌≡◌, ◌∙◌, Some, ap, arith, get_or, length, length-append, subst, sym}
 use Rattle.std.specs.Prelude.{slice_get}
 use Rattle.std.specs.Option.{option_map}
 use Rattle.nest_ways.specs.Sets.{AreKeptSets, HasAll, HasOnly}
@@ -14,14 +14,19 @@ loop-input-preserved c =
     let kept = c.in-Some-ends.kept in
     let input = get_or c.args.inputs.now c.loop-input.input-index 0 in
     let there : slice_get all input ≡ Some c.in-Some.one.now = sym c.at.ensures ∙ ap (option_map (λ one. one.now)) c.in-Some.is in
-    sets_with numbered all sets c.set_at.new.sets.items input c.in_ok-set.set
-    (subst (λ those. AreKeptSets those all sets) (sym more.1) (sets_more c.loop-input.numbered more.0 all sets c.loop-input.invariant))
-    (λ one is.
-    let own = c.in_ok-set.ensures.has one is in record {
-      known = c.in-Some.one.now;
-      there = there;
-      kept = kept;
-      keeps = c.in-Some-ends.is;
-      has_all = subst (HasAll numbered one) c.as_slice.ensures own.0;
-      has_only = subst (HasOnly numbered one) c.as_slice.ensures own.1;
-    }) c.set_at.ensures
+    let long = ap length more.1 in
+    let parts = length-append c.loop-input.numbered more.0 in
+    let least = c.loop-input.invariant.1 in (
+      sets_with numbered all sets c.set_at.new.sets.items input c.in_ok-set.set
+          (subst (λ those. AreKeptSets those all sets) (sym more.1) (sets_more c.loop-input.numbered more.0 all sets c.loop-input.invariant.0))
+          (λ one is.
+          let own = c.in_ok-set.ensures.has one is in record {
+            known = c.in-Some.one.now;
+            there = there;
+            kept = kept;
+            keeps = c.in-Some-ends.is;
+            has_all = subst (HasAll numbered one) c.as_slice.ensures own.0;
+            has_only = subst (HasOnly numbered one) c.as_slice.ensures own.1;
+          }) c.set_at.ensures.only,
+      omega (arith, long, parts, least),
+    )

@@ -9,7 +9,7 @@ loop-place-preserved c =
     let words = c.args.words.now in
     let place = c.loop-place.place in
     let none : SetWord = record { bits = 0 } in
-    empty_next words place (get_or words place none) (slice_get-get_or words place none c.loop-place-test.true) c.if-word-ne0.false c.loop-place.invariant
+    empty_next words place (get_or words place none) (slice_get-get_or words place none c.loop-place-test.true) (c.is_empty.ensures.0 c.if-not-is_empty.false) c.loop-place.invariant
 
 pub returns-clause-least : goal.returns-clause-least
 returns-clause-least c place bit has =

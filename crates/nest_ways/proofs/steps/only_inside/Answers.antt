@@ -1,16 +1,22 @@
-use Rattle.std.proofs.Common.{◌≡◌, ◌∙◌, Some, ap, sym}
+use Rattle.std.proofs.Common.{◌≡◌, ◌∙◌, List, Some, ap, sym}
 use Rattle.std.specs.Prelude.{slice_get}
 use Rattle.std.specs.Option.{option_map}
 use Rattle.std.proofs.lemmas.Option.{same_Some}
+use Rattle.nest_ways.specs.declared.steps.Step.{Step}
 use Rattle.nest_ways.specs.declared.steps.Step.TheVariants as step_is
 use Rattle.nest_ways.proofs.WayLaws.{only_one}
 use Rattle.nest_ways.proofs.steps.only_inside.Goals as goal
 
 pub returns-in-Inside : goal.returns-in-Inside
-returns-in-Inside c inside is =
-    let steps = c.args.steps.now in
-    let same = same_Some c.in-Inside.inside inside is in
-    let there : slice_get steps 0 ≡ Some (step_is.Inside inside) =
-    sym c.at.ensures ∙ ap (option_map (λ one. one.now)) c.in_ok-inside.was ∙ ap (λ step. Some step) c.in-Inside.is
-    ∙ ap (λ one. Some (step_is.Inside one)) same in
-    only_one steps (step_is.Inside inside) c.if-steps-ne1.false there
+returns-in-Inside c inside = (
+  λ is. only_one steps (step_is.Inside inside) c.if-steps-ne1.false (there ∙ ap (λ one. Some (step_is.Inside one)) (same_Some c.in-Inside.inside inside is)),
+  λ is.
+      let same = same_Some (step_is.Inside c.in-Inside.inside) (step_is.Inside inside) (sym there ∙ ap (λ those. slice_get those 0) is) in
+      let one : c.in-Inside.inside ≡ inside = cc same in ap (λ each. Some each) one,
+)
+  where
+    steps : List Step
+    steps = c.args.steps.now
+
+    there : slice_get steps 0 ≡ Some (step_is.Inside c.in-Inside.inside)
+    there = sym c.at.ensures ∙ ap (option_map (λ one. one.now)) c.in_ok-inside.was ∙ ap (λ step. Some step) c.in-Inside.is

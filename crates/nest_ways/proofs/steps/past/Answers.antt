@@ -16,4 +16,4 @@ returns c one is =
     some_is _ _ c.checked_add.result c.in_ok-offset.offset c.in_ok-offset.was c.checked_add.ensures in
     let past : Inside = record { offset = step.offset + onward.offset; input = onward.input } in
     let is_past : made ≡ past = ap (λ offset. record { offset = offset; input = onward.input }) sum in
-    inr (onward, sym c.as_slice.ensures ∙ c.only_inside.ensures onward c.in-Some.is, sym (same_Some made one is) ∙ is_past)
+    inr (onward, sym c.as_slice.ensures ∙ (c.only_inside.ensures onward).0 c.in-Some.is, sym (same_Some made one is) ∙ is_past)

@@ -19,4 +19,4 @@ returns-in-Some c told known found =
     let own = c.requires.kept c.args.inlet.input set ((c.set.ensures set).0 (ap (option_map (λ one. one.now)) c.in-Some.is)) in
     let keeps = (c.requires.known c.args.inlet.input own.known own.there).ends own.kept own.keeps in
     subst (IsDone nest scopes base walk.ends offset) (same_Some own.known known (sym own.there ∙ found))
-    (put_whole nest scopes group_scopes kept_sets all base offset own.known own.kept set walk keeps own.has_all (c.has.ensures told) c.requires.done)
+    (put_whole nest scopes group_scopes kept_sets all base offset own.known own.kept set walk keeps own.has_all (c.has.ensures.0 told).1 c.requires.done)

@@ -23,6 +23,6 @@ returns c =
     let new : Walk = record { ends = c.put_within.new.ends; done = old.done; put = old.put } in
     ok_more (λ whole. PutsIf whole end old.ends new.ends)
     (λ whole. (bind : Bind) → LeadsHere nest known.group line bind → WalksOn nest scopes group_scopes kept_sets all base offset known old new whole (bind ∷ []))
-    c.put_within.result c.put_within.ensures
+    c.put_within.result c.put_within.ensures.puts
     (λ whole puts bind leads.
     component_walks nest scopes group_scopes kept_sets all base offset line known bind end old new whole c.requires.there c.requires.walk.done refl refl leads puts refl refl)

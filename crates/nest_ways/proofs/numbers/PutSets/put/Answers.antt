@@ -1,8 +1,10 @@
-use Rattle.std.proofs.Common.{◌≡◌, ◌<◌, Bool, Ok, Err, Some, arith, length, refl}
+use Rattle.std.proofs.Common.{◌≡◌, ◌<◌, Bool, Ok, Err, Some, ◌∙◌, arith, length, refl, subst, sym}
 use Rattle.std.specs.Prelude.{slice_get, IfOk, Result}
 use Rattle.std.specs.declared.alloc.AllocError.{AllocError}
 use Rattle.list_laws.proofs.Members.{read_at}
 use Rattle.list_laws.proofs.Options.{on_ok}
+use Rattle.std.proofs.lemmas.Option.{same_Some}
+use Rattle.nest_ways.specs.Sets.{HasRoomForAll}
 use Rattle.nest_ways.proofs.SetLaws.{put_set, put_still, put_there}
 use Rattle.nest_ways.proofs.numbers.PutSets.put.Goals.{In-Some}
 use Rattle.nest_ways.proofs.numbers.PutSets.put.Goals as goal
@@ -39,3 +41,14 @@ returns-in-Some-clause-only c =
     on_ok c.put_all.result _ _
     (put_set sets c.args.scope c.put_all.new.self c.in-Some.own.now c.args.set.now (there (goal.at.returns-in-Some-clause-only c).In-Some))
     c.put_all.ensures.only
+
+pub returns-in-Some-clause-room : goal.returns-in-Some-clause-room
+returns-in-Some-clause-room c =
+    let sets = c.args.self.now.sets.items in
+    let own = c.in-Some.own.now in
+    let at = there (goal.at.returns-in-Some-clause-room c).In-Some in
+    if_ok c.put_all.result _ _
+    (λ told room. (
+      λ is. (own, at, room.0 is),
+      λ has. room.1 (subst (λ each. HasRoomForAll each c.args.set.now) (same_Some has.0 own (sym has.1 ∙ at)) has.2),
+    )) c.put_all.ensures.room
