@@ -1,7 +1,8 @@
 //! Tests of what no command reaches:
 //!
 //! - words that are not valid code, a row that is written alone, the sum of the words of a trace with events
-//! - a nest that is kept when it is made flat
+//! - a nest that is kept when it is made flat, or when it is refused
+//! - a system without a plan, and a saved text after other bytes
 //! - pairs of nodes, and bytes near those of facts
 //!
 //! The expected results were worked out by hand. All other tests are of the built program, by the texts of `tests/`.
@@ -15,5 +16,7 @@ mod facts;
 mod nests;
 #[cfg(test)]
 mod pairs;
+#[cfg(test)]
+mod plans;
 #[cfg(test)]
 mod rows;

@@ -1,4 +1,4 @@
-//! A nest that is kept when it is made flat.
+//! A nest that is kept when it is made flat, or when it is refused.
 use nest_text::{NestFault, read_nest};
 use std::alloc::Global;
 use std::test::Fail;
@@ -26,5 +26,16 @@ fn counts_of(alloc: Global, text: &[u8]) -> Result<(usize, usize), NestFault> {
 #[test]
 fn two_ways_to_one_input_are_one_connection(rt: HostRuntime) -> Result<(), Fail> {
     assert_eq!(rt; counts_of(rt.alloc(), TWO_WAYS)?, (2, 1));
+    Ok(())
+}
+
+/// Two groups with instances of each other, and a group around one of them.
+const GROUPS_IN_EACH_OTHER: &[u8] =
+    b"group O\ninstance i : G\nend\ngroup G\ninstance c : H\nend\nout x = c.y\ngroup H\ninstance b : G\nend\nout y = b.x\nmain\ncosim 1\nunit Counter\nstate n : Int64 = 0\noutput y : Int64 = n\nend\ninstance g : O\nend\nstop 3\n";
+
+#[test]
+fn groups_in_each_other_are_refused_at_the_first(rt: HostRuntime) -> Result<(), Fail> {
+    let fault = NestFault::Line { line: 4, rule: 28 };
+    assert_eq!(rt; counts_of(rt.alloc(), GROUPS_IN_EACH_OTHER), Err(fault));
     Ok(())
 }
