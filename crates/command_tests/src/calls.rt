@@ -13,6 +13,10 @@ use work_crew::Gate;
 const RISING: &[u8] =
     b"cosim 1\nunit Counter\nstate n : Int64 = 0\ninput u : Int64 = 0\noutput y : Int64 = n\nstep\nn := n + 1\nend\nend\ninstance a : Counter\nend\ninstance b : Counter\nend\nconnect a.y -> a.u\nconnect b.y -> b.u\nstop 20\nlongest 1\n";
 
+/// The same, but the input of the second instance is constant.
+const MIXED: &[u8] =
+    b"cosim 1\nunit Counter\nstate n : Int64 = 0\ninput u : Int64 = 0\noutput y : Int64 = n\nstep\nn := n + 1\nend\nend\ninstance a : Counter\nend\ninstance b : Counter\nend\nconnect a.y -> a.u\nstop 20\nlongest 1\n";
+
 const ROWS: &[u8] =
     b"time,index,a.y,b.y\n0,0,0,0\n1,0,1,1\n2,0,2,2\n3,0,3,3\n4,0,4,4\n5,0,5,5\n6,0,6,6\n7,0,7,7\n8,0,8,8\n9,0,9,9\n10,0,10,10\n11,0,11,11\n12,0,12,12\n13,0,13,13\n14,0,14,14\n15,0,15,15\n16,0,16,16\n17,0,17,17\n18,0,18,18\n19,0,19,19\n20,0,20,20\n";
 
@@ -178,6 +182,56 @@ fn answers_are_taken_of_as_many_rows_as_are_guessed_right(rt: HostRuntime) -> Re
         assert!(rt; found >= 30);
         assert_eq!(rt; posted < found, is_ahead, "{window} {guess}");
     }
+    Ok(())
+}
+
+/// A lane whose guesses are all wrong has a ticket for each of its 20 steps, and one whose guesses are right has fewer. So the count
+/// of both is neither that of one alone nor twice that of one.
+#[test]
+fn tickets_of_different_lanes_are_added(rt: HostRuntime) -> Result<(), Fail> {
+    let words = [
+        "run",
+        "--workers",
+        "1",
+        "--window",
+        "16",
+        "--guess",
+        "hold",
+        "--report",
+    ];
+    let gate = Waits::new();
+    let [_, _, _, _, posted, _, _] = counts_of(rt, rt.alloc(), &words, MIXED, ROWS, &gate)?;
+    assert!(rt; posted > 20 && posted < 40, "{posted}");
+    Ok(())
+}
+
+/// Returns how many tickets a run with this window takes where all guesses are right.
+fn tickets_of<R: Threads + Wait + Copy + Send + Drop + 'static>(
+    rt: R,
+    alloc: Global,
+    window: &str,
+) -> Result<u64, Fail> {
+    let words = [
+        "run",
+        "--workers",
+        "1",
+        "--window",
+        window,
+        "--guess",
+        "linear",
+        "--report",
+    ];
+    let gate = Waits::new();
+    let [_, _, _, _, posted, _, _] = counts_of(rt, alloc, &words, RISING, ROWS, &gate)?;
+    Ok(posted)
+}
+
+/// A longer window has fewer tickets, since each of them is for more rows.
+#[test]
+fn a_longer_window_has_fewer_tickets(rt: HostRuntime) -> Result<(), Fail> {
+    let short = tickets_of(rt, rt.alloc(), "2")?;
+    let long = tickets_of(rt, rt.alloc(), "16")?;
+    assert!(rt; long < short, "{long} {short}");
     Ok(())
 }
 

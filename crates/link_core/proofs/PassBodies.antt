@@ -43,9 +43,6 @@ numbered_end (x ∷ xs) from (suc k) past = numbered_end xs (from + 1) k (omega 
 pub record Going {X : Type 0} (make : Making → ℕ × X → Making) (xs : List X) (start now : Making) (k : ℕ) : Type 0 where
   pub rest : each make now (drop k (enumerate_from 0 xs)) ≡ each make start (enumerate_from 0 xs)
 
-pub going : {X : Type 0} (make : Making → ℕ × X → Making) (xs : List X) (start : Making) → Going make xs start start 0
-going make xs start = record { rest = refl }
-
 pub goes_on : {X : Type 0} (make : Making → ℕ × X → Making) (xs : List X) (start now next : Making) (k : ℕ) (x : X) → slice_get xs k ≡ Some x
     → next ≡ make now (k, x) → Going make xs start now k → Going make xs start next (k + 1)
 goes_on make xs start now next k x is made so = record {
@@ -178,9 +175,6 @@ module _ (run : Composition) (owners : List ℕ) (me : ℕ) (states : List (List
 -- As many passes as are left lead from what was made so far to the result of all passes.
 pub record Turning (me row : ℕ) (outs : List (ℕ × (ℕ × Outlet))) (count : ℕ) (start now : Making) (turn : ℕ) : Type 0 where
   pub rest : (left : ℕ) → left + turn ≡ count → passes me row outs left now ≡ passes me row outs count start
-
-pub turning : (me row : ℕ) (outs : List (ℕ × (ℕ × Outlet))) (count : ℕ) (start : Making) → Turning me row outs count start start 0
-turning me row outs count start = record { rest = λ left is. let all : left ≡ count = omega (arith, is) in ap (λ more. passes me row outs more start) all }
 
 pub turns_on : (me row : ℕ) (outs : List (ℕ × (ℕ × Outlet))) (count : ℕ) (start now next : Making) (turn : ℕ) → next ≡ each (with_word me row) now outs
     → Turning me row outs count start now turn → Turning me row outs count start next (turn + 1)

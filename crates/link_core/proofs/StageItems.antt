@@ -9,7 +9,7 @@ use Rattle.link_laws.specs.Making.{name_of, names_of, no_states}
 use Rattle.link_laws.specs.Stages.{limit_in, max_by, word_end}
 use Rattle.link_laws.specs.declared.fact.Asked.{Asked}
 use Rattle.link_laws.specs.declared.fact.Seen.{Seen}
-use Rattle.link_core.proofs.StageBodies.{as_many_zipped}
+use Rattle.std.proofs.lemmas.Slice.Zip.{length-zip}
 use Rattle.list_laws.proofs.Members.{at_place}
 use Rattle.list_laws.proofs.Pairs.{zip_there}
 use Rattle.port_solve.proofs.OutputPlaces.{outlet_of}
@@ -25,6 +25,9 @@ use Rattle.unit_tree.specs.declared.ending.Ending.{Ending}
 use Rattle.unit_tree.specs.declared.order.Route.{Route}
 use Rattle.unit_tree.proofs.RouteLaws.{count_is}
 
+pub as_many_zipped : {X Y : Type 0} (xs : List X) (ys : List Y) → length ys ≡ length xs → length (zip xs ys) ≡ length xs
+as_many_zipped xs ys long = omega (arith, length-zip xs ys, long)
+
 pub limit_there : (run : Composition) (t k factor : ℕ) → k < length run.members → ForMember run k (λ member. factor ≡ member.factor)
     → (limits : List (Option Asked)) → length limits ≡ length run.members → (d : Option Asked)
     → (x : Member × Option Asked) × (slice_get (zip run.members limits) k ≡ Some x) × (limit_told factor t (max_by (get_or limits k d)) ≡ limit_in t x)
@@ -36,15 +39,6 @@ limit_there run t k factor within factor_is limits long d =
       ap
           (λ f. limit_told f t (max_by asked)) (factor_is member.0 member.1),
     )
-
-pub max_there : (limits : List (Option Asked)) (k : ℕ) (d : Option Asked) (end : Option Ending) → k < length limits
-    → end ≡ max_end_of (k, max_by (get_or limits k d))
-    → slice_get (map max_end_of (enumerate_from 0 (map max_by limits))) k ≡ Some end
-max_there limits k d end within is =
-    let asked = get_or limits k d in
-    mapped_at max_end_of (enumerate_from 0 (map max_by limits)) k (k, max_by asked)
-    (first_at (map max_by limits) k (max_by asked) (mapped_at max_by limits k asked (slice_get-get_or limits k d within)))
-    ∙ ap (λ one. Some one) (sym is)
 
 none_of : (run : Composition) → length (no_states run) ≡ length run.members
 none_of run = length-map run.members (λ member. [])
@@ -67,9 +61,6 @@ word_there run words k d route end within long route_is is =
     ∙ ap (λ one. Some one) (sym is)
 
 -- ---- How many there are
-
-pub max_ends_long : (limits : List (Option Asked)) → length (map max_end_of (enumerate_from 0 (map max_by limits))) ≡ length limits
-max_ends_long limits = length-map (enumerate_from 0 (map max_by limits)) max_end_of ∙ length-enumerate_from 0 (map max_by limits) ∙ length-map limits max_by
 
 pub word_ends_long : (run : Composition) (words : List (Option Seen)) → length words ≡ length (routes_of run).outputs
     → length (map word_end (zip (names_of run) words)) ≡ length (routes_of run).outputs

@@ -13,7 +13,7 @@ use Rattle.std.proofs.lemmas.List.{length-map}
 use Rattle.link_core.specs.Noted.{IsPartOf, limit_if, part_at, reply_if, stepped, stepped_if, stepped_one}
 use Rattle.link_laws.specs.declared.fact.Fact.TheVariants.{Limit}
 use Rattle.link_core.proofs.PassBodies.{Going, goes_on}
-use Rattle.link_core.proofs.StageBodies.{as_many_zipped}
+use Rattle.link_core.proofs.StageItems.{as_many_zipped}
 use Rattle.step_rule.proofs.AlongLaws.{mapped_at}
 use Rattle.link_laws.specs.declared.fact.Asked.{Asked}
 use Rattle.link_laws.specs.declared.fact.Fact.{Fact}
@@ -135,30 +135,6 @@ own_stepped me t h ports (owner ∷ owners) (member ∷ members) (state ∷ stat
     by_test true = refl
     by_test false = refl
 
--- ---- The effect of one call
-
-pub limit_made : (own : Bool) (row t instance : ℕ) (ports : Ports) (standing : Standing) (now : Making) (asked : Asked) (limits : List (Option Asked))
-    (facts : List Fact) → own ≡ true
-    → is_none (entry now.known.limits instance) ≡ true → asked ≡ asked_of (max_at t ports standing) → limits ≡ slice_set now.known.limits instance (Some asked)
-    → facts ≡ now.facts ++ Limit row instance asked ∷ []
-    → record { known = record now.known { limits = limits }; facts = facts } ≡ limit_if own row t ports standing instance now
-limit_made own row t instance ports standing now asked limits facts own_is none asked_is limits_are facts_are =
-    let made : Asked → Making = λ one. record {
-      known = record now.known { limits = slice_set now.known.limits instance (Some one) };
-      facts = now.facts ++ Limit row instance one ∷ [];
-    } in
-    ap₂ (λ l f. record { known = record now.known { limits = l }; facts = f }) limits_are facts_are
-    ∙ ap made asked_is
-    ∙ sym (ap₂ (λ o n. if o && n then made (asked_of (max_at t ports standing)) else now) own_is none)
-
-pub reply_made : (redo own : Bool) (row t h instance : ℕ) (ports : Ports) (standing : Standing) (now next : Making) (said : Option Said) → own ≡ true
-    → is_none (said_entry redo now.known instance) ≡ true
-    → said ≡ option_map said_of (step_at t h ports standing) → next ≡ put_said redo row instance said now
-    → next ≡ reply_if redo own row t h ports standing instance now
-reply_made redo own row t h instance ports standing now next said own_is none said_is is =
-    is ∙ ap (λ one. put_said redo row instance one now) said_is
-    ∙ sym (ap₂ (λ o n. if o && n then put_said redo row instance (option_map said_of (step_at t h ports standing)) now else now) own_is none)
-
 -- ---- One more instance
 
 module _ (run : Composition) (owners : List ℕ) (me : ℕ) (states now_states : List (List ℤ)) (owns : length owners ≡ length run.members)
@@ -219,21 +195,3 @@ limits_stay run owners me at (Trial h) making other = refl
 limits_stay run owners me at (Redo h) making other = refl
 limits_stay run owners me at (Over ending) making other = refl
 limits_stay run owners me at (On h) making other = refl
-
-pub replies_stay : (run : Composition) (owners : List ℕ) (me : ℕ) (at : Position) (stage : Stage) (making : Making) → ((h : ℕ) → stage ≡ Trial h → ⊥)
-    → making ≡ replies_by run owners me at stage making
-replies_stay run owners me at (Trial h) making other = absurd (other h refl)
-replies_stay run owners me at Limits making other = refl
-replies_stay run owners me at Words making other = refl
-replies_stay run owners me at (Redo h) making other = refl
-replies_stay run owners me at (Over ending) making other = refl
-replies_stay run owners me at (On h) making other = refl
-
-pub redos_stay : (run : Composition) (owners : List ℕ) (me : ℕ) (at : Position) (stage : Stage) (making : Making) → ((h : ℕ) → stage ≡ Redo h → ⊥)
-    → making ≡ redos_by run owners me at stage making
-redos_stay run owners me at (Redo h) making other = absurd (other h refl)
-redos_stay run owners me at Limits making other = refl
-redos_stay run owners me at Words making other = refl
-redos_stay run owners me at (Trial h) making other = refl
-redos_stay run owners me at (Over ending) making other = refl
-redos_stay run owners me at (On h) making other = refl

@@ -133,13 +133,6 @@ word_is run stand place seen long within so =
 
 -- ---- A node that takes a fact
 
--- The effect of dropping it.
-pub dropped_is : (run : Composition) (owners : List ℕ) (me : ℕ) (node : Progress) (fact : Fact) (test : Bool) → test ≡ drops (rule_of run owners) me node fact
-    → test ≡ true
-    → (node, Dropped) ≡ taken (rule_of run owners) me node fact
-dropped_is run owners me node fact test is so =
-    sym (ap (λ one. if one then (node, Dropped) else worked (rule_of run owners) me (knowing node fact)) (sym is ∙ so))
-
 pub taken_is : (run : Composition) (owners : List ℕ) (me : ℕ) (node : Progress) (fact : Fact) (test : Bool) (did : Progress × Taken)
     → test ≡ drops (rule_of run owners) me node fact → test ≡ false
     → did ≡ worked (rule_of run owners) me (knowing node fact) → did ≡ taken (rule_of run owners) me node fact
@@ -160,12 +153,6 @@ module _ (plan : Planned) (judged : IsJudged plan.run) (owners : List ℕ) (me :
       let two = either_false _ _ one.1 in
       let three = either_false _ _ two.1 in
       (one.0, (not_false (is_own plan.run owners (1 - me) fact) three.0, three.1))
-
-  pub not_ended : is_some course.ended ≡ false
-  not_ended = parts.0
-
-  pub unknown : has (making_in notes).known fact ≡ false
-  unknown = parts.1.1
 
   pub is_item : IsItemOf plan.run fact
   is_item = by_fact fact honest (row_is plan.run (rule_of plan.run owners) (right plan.run judged owners me set.owned) me node fact going) parts.1.0

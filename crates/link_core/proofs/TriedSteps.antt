@@ -19,7 +19,7 @@ use Rattle.unit_tree.specs.Compositions.{Composition, Member}
 use Rattle.unit_tree.specs.Negotiation.{all_inputs, inputs_at, is_held, state_after, step_at}
 use Rattle.unit_tree.specs.Ports.{Ports}
 use Rattle.link_core.proofs.LoopLaws.{Made, one_made}
-use Rattle.link_core.proofs.StageBodies.{as_many_zipped}
+use Rattle.link_core.proofs.StageItems.{as_many_zipped}
 use Rattle.link_core.proofs.StepBodies.{at_instance, inputs_there, stepped_at}
 use Rattle.std.proofs.lemmas.Grind.{drop_more_same}
 

@@ -28,5 +28,6 @@ step_known t h (member, said) = record {
   slot = slot_known (is_held member.factor t h) said;
 }
 
+-- The steps of all members, by their replies.
 abbrev pub steps_known : ℕ → ℕ → List Member → List (Option Said) → List Step
 steps_known t h members replies = map (step_known t h) (zip members replies)

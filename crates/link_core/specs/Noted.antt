@@ -84,11 +84,11 @@ place_of point = position_at point 0
 abbrev pub part_at : List ℕ → ℕ → Point → ℕ → List (List ℤ) → Position
 part_at owners me point number states = record { point = point; states = own_states owners me states; number = number }
 
--- The step of a stage does not pass the stop, and a step that is made is not one zero step too many.
+-- The step of a stage does not pass the stop.
 abbrev pub AllowsStep : Composition → Point → Stage → Type 0
 AllowsStep run point (Trial h) = point.t + h ≤ run.stop
 AllowsStep run point (Redo h) = point.t + h ≤ run.stop
-AllowsStep run point (On h) = (point.t + h ≤ run.stop) × (((h == 0) && (point.n == run.zero_budget)) ≡ false)
+AllowsStep run point (On h) = point.t + h ≤ run.stop
 AllowsStep run point other = ⊤
 
 -- ---- Words
@@ -102,13 +102,6 @@ IsWordSeen run place other = ⊤
 abbrev pub with_port : Ports → ℕ → Seen → Ports
 with_port ports place (Is word) = slice_set ports place (Some word)
 with_port ports place other = ports
-
--- ---- Limits
-
--- A length, and at most a limit, where there is one.
-abbrev pub least_with : ℕ → Option ℕ → ℕ
-least_with least None = least
-least_with least (Some limit) = min least limit
 
 -- ---- The facts of an instance
 

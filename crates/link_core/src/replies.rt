@@ -3,7 +3,7 @@ ghost use Rattle.std.specs.Prelude.{◌≡◌, ◌≤◌, ◌+◌, ◌^◌, leng
 ghost use Rattle.link_core.specs.KnownSteps.{slot_known, steps_known};
 
 use link_laws::Said;
-use step_rule::{Slot, Step, Steps, is_held};
+use step_rule::{Slot, Step, Steps, is_held_by};
 use super_time::local_step;
 use trace_plan::Plan;
 
@@ -41,10 +41,11 @@ impl Steps for Replies<'_> {
         // Called for its clauses, which state how many instances there are.
         let _ = self.plan.instances();
         let factor = self.plan.factor(instance as u32);
+        let asked = local_step(factor, self.t, self.h);
         Step {
             factor,
-            asked: local_step(factor, self.t, self.h),
-            slot: slot(is_held(factor, self.t, self.h), self.said[instance]),
+            asked,
+            slot: slot(is_held_by(self.h, asked), self.said[instance]),
         }
     }
 }

@@ -1,20 +1,21 @@
 //! What a row requires next.
-ghost use Rattle.std.specs.Prelude.{◌≡◌, ◌≤◌, ◌<◌, ◌+◌, ◌^◌, map, zip, length, is_some};
+ghost use Rattle.std.specs.Prelude.{◌≡◌, ◌≤◌, ◌<◌, ◌+◌, map, zip, length, is_some, IfOk};
 ghost use Rattle.std.specs.List.{list_all, filter_map};
 ghost use Rattle.link_laws.specs.Making.{names_of};
-ghost use Rattle.link_core.specs.Noted.{making_in, AreNotes, place_of, position_at, least_with, AllowsStep};
-ghost use Rattle.link_laws.specs.Stages.{stage_of, stage_of_limits, stage_of_trial, stage_of_redo, stage_on, word_end, max_by, limit_in};
-ghost use Rattle.unit_tree.specs.Negotiation.{limit_told, proposal_of};
+ghost use Rattle.link_core.specs.Noted.{making_in, AreNotes, place_of, position_at, AllowsStep};
+ghost use Rattle.link_laws.specs.Stages.{stage_of, stage_of_limits, stage_of_trial, stage_of_redo, word_end, max_by, limit_in};
+ghost use Rattle.unit_tree.specs.Negotiation.{proposal_of};
 ghost use Rattle.unit_tree.specs.Ports.{first_some};
 ghost use Rattle.unit_tree.specs.Routes.{routes_of};
 ghost use Rattle.unit_tree.specs.Successor.{first_told, max_end_of};
-ghost use Rattle.model_rules.specs.Limits.{instance_limit};
+ghost use Rattle.step_rule.specs.Steps.{ending_or};
 
 use crate::notes::Notes;
 use crate::replies::Replies;
+use fixed_words::Fault;
 use link_laws::{Asked, Said, Seen, Stage};
-use step_rule::{NextPoint, after, are_made, capped, read_redo, read_trial};
-use super_time::{Point, limit};
+use step_rule::{Course, are_made, course_of_redo, course_of_trial, limited, longest_step};
+use super_time::Point;
 use trace_plan::Plan;
 use unit_tree::{Ending, Place, Route};
 
@@ -54,75 +55,31 @@ pub(crate) fn word_fault(plan: &Plan, words: &[Option<Seen>]) -> Option<Ending>
     None
 }
 
-/// Returns how a `max` ends the run, if it does, by what is known of it.
-fn max_end(instance: u32, asked: Option<Asked>) -> Option<Ending>
-    ensures { result ≡ max_end_of (instance, max_by asked) }
+/// Returns the result of a `max` that is known.
+fn max_by(asked: Option<Asked>) -> Result<Option<u64>, Fault>
+    ensures { result ≡ max_by asked }
 {
     match asked {
-        Some(Asked::Fault(fault)) => Some(Ending::UnitFault {
-            instance,
-            place: Place::Max,
-            fault,
-        }),
-        _ => None,
+        Some(Asked::Max(local)) => Ok(Some(local)),
+        Some(Asked::Fault(fault)) => Err(fault),
+        Some(Asked::Free) | None => Ok(None),
     }
 }
 
-/// Returns how a fault of a `max` ends the run, if there is one: the first by its instance.
-fn max_fault(limits: &[Option<Asked>]) -> Option<Ending>
-    requires { length limits.now ≤ instance_limit }
-    ensures { result ≡ first_told max_end_of (map max_by limits.now) }
-{
-    for instance in 0..limits.len() {
-        let end = max_end(instance as u32, limits[instance]);
-        if end.is_some() {
-            return end;
-        }
-    }
-    None
-}
-
-/// Returns the limit of a `max` at `t`, or `least` where that is less.
-fn capped_limit(factor: u64, t: u64, asked: Option<Asked>, least: u64) -> u64
-    requires factor { 1 ≤ factor }
-    requires coarsest { factor ≤ 10 ^ 9 }
-    requires time { t ≤ 10 ^ 15 }
-    ensures { result ≡ least_with least (limit_told factor t (max_by asked)) }
-{
-    match asked {
-        Some(Asked::Max(local)) => capped(least, limit(factor, t, local)),
-        _ => least,
-    }
-}
-
-/// Returns the proposed step at `t`, where all limits are known.
-fn proposal(plan: &Plan, limits: &[Option<Asked>], t: u64) -> u64
+/// Returns the proposed step at `t`, where all limits are known, or how the first fault of a `max` ends the run.
+fn read_limits(plan: &Plan, limits: &[Option<Asked>], t: u64) -> Result<u64, Ending>
     requires limits { length limits.now ≡ length plan.now.run.members }
     requires time { t ≤ plan.now.run.stop }
-    ensures proposal { result ≡ proposal_of plan.now.run.stop plan.now.run.longest t (filter_map (limit_in t) (zip plan.now.run.members limits.now)) }
-    ensures end { t + result ≤ plan.now.run.stop }
+    ensures read { result ≡ ending_or (first_told max_end_of (map max_by limits.now))
+        (proposal_of plan.now.run.stop plan.now.run.longest t (filter_map (limit_in t) (zip plan.now.run.members limits.now))) }
+    ensures end { IfOk result (λ h. t + h ≤ plan.now.run.stop) }
 {
-    let stop = plan.stop();
-    let mut least = (stop - t).min(plan.longest());
+    let mut least = longest_step(plan.stop(), plan.longest(), t);
     for instance in 0..plan.instances() {
-        least = capped_limit(plan.factor(instance), t, limits[instance as usize], least);
+        let told = max_by(limits[instance as usize]);
+        least = limited(least, instance, plan.factor(instance), t, told)?;
     }
-    least
-}
-
-/// Returns the stage of a row that goes on by a step of `h`, unless this is one zero step too many.
-fn stage_on(plan: &Plan, point: Point, h: u64) -> Stage
-    requires end { point.t + h ≤ plan.now.run.stop }
-    requires zeros { point.n ≤ plan.now.run.zero_budget }
-    ensures stage { result ≡ stage_on plan.now.run (place_of point) h }
-    ensures step { AllowsStep plan.now.run point result }
-{
-    // Called for its clauses, which state how large the numbers of a plan are.
-    let _ = plan.stop();
-    match after(point, h, plan.zero_budget()) {
-        NextPoint::ZeroBudget => Stage::Over(Ending::ZeroBudget),
-        NextPoint::Next(_) => Stage::On(h),
-    }
+    Ok(least)
 }
 
 /// Returns the stage of a row with a redo of `h`.
@@ -145,9 +102,10 @@ fn stage_of_redo(plan: &Plan, point: Point, redos: &[Option<Said>], h: u64) -> S
     if !are_made(&steps) {
         return Stage::Redo(h);
     }
-    match read_redo(&steps) {
-        Some(ending) => Stage::Over(ending),
-        None => stage_on(plan, point, h),
+    match course_of_redo(&steps, point, h, plan.zero_budget()) {
+        Course::Redo(h) => Stage::Redo(h),
+        Course::On(_) => Stage::On(h),
+        Course::End(ending) => Stage::Over(ending),
     }
 }
 
@@ -171,10 +129,10 @@ fn stage_of_trial(plan: &Plan, point: Point, notes: &Notes, h: u64) -> Stage
     if !are_made(&steps) {
         return Stage::Trial(h);
     }
-    match read_trial(&steps, point.t, h) {
-        Err(ending) => Stage::Over(ending),
-        Ok(least) if least < h => stage_of_redo(plan, point, &notes.redos, least),
-        Ok(least) => stage_on(plan, point, least),
+    match course_of_trial(&steps, point, h, plan.zero_budget()) {
+        Course::Redo(least) => stage_of_redo(plan, point, &notes.redos, least),
+        Course::On(_) => Stage::On(h),
+        Course::End(ending) => Stage::Over(ending),
     }
 }
 
@@ -191,11 +149,10 @@ fn stage_of_limits(plan: &Plan, point: Point, notes: &Notes) -> Stage
     if !are_known(&notes.limits) {
         return Stage::Limits;
     }
-    if let Some(ending) = max_fault(&notes.limits) {
-        return Stage::Over(ending);
+    match read_limits(plan, &notes.limits, point.t) {
+        Err(ending) => Stage::Over(ending),
+        Ok(h) => stage_of_trial(plan, point, notes, h),
     }
-    let h = proposal(plan, &notes.limits, point.t);
-    stage_of_trial(plan, point, notes, h)
 }
 
 /// Returns what the row at this point and with this number requires next.

@@ -9,6 +9,7 @@ use Rattle.link_laws.specs.Stages.{are_answered, least_in, limit_in, max_by, ove
 use Rattle.link_laws.specs.Stages.{stage_on, steps_in, word_end}
 use Rattle.link_laws.specs.declared.stage.Stage.{Stage}
 use Rattle.link_laws.specs.declared.stage.Stage.TheVariants.{Limits, On, Over, Redo, Trial, Words}
+use Rattle.step_rule.proofs.AlongLaws.{least_agreed}
 use Rattle.std.proofs.Common.{◌≤◌, arith, Result, ap, ap₂, refl, subst, sym, true≢false, ◌∙◌}
 use Rattle.std.proofs.lemmas.Slice.Zip.{firsts-zip}
 use Rattle.std.specs.List.{AllZip, filter_map, list_all}
@@ -24,11 +25,6 @@ use Rattle.unit_tree.specs.Successor.{replies_to, row_end, standings, step_end_o
 use Rattle.unit_tree.specs.Trace.{Stand}
 use Rattle.unit_tree.specs.declared.ending.Ending.{Ending}
 use Rattle.unit_tree.specs.declared.ending.Ending.TheVariants.{ZeroBudget}
-
--- Where the agreed step is at most the proposed one, it is the least of this and of the replies.
-least_agreed : (h : ℕ) (replies : List ℕ) → agreed_step h replies ≤ h → least_of h replies ≡ agreed_step h replies
-least_agreed h [] at_most = refl
-least_agreed h (first ∷ replies) at_most = omega (arith, at_most)
 
 module _ (run : Composition) (stand : Stand) (known : Board) (long : length stand.at.states ≡ length run.members)
     (at_most : agreed run stand.at stand.ports ≤ proposed run stand.at stand.ports) (so : Agrees (board_of run stand) known) where

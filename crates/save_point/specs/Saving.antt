@@ -19,7 +19,7 @@ pub record PutsPosition (plan : Planned) (number : ℕ) (old new : List ℕ) : T
 abbrev pub HasNoPosition : Composition → ℕ → Type 0
 HasNoPosition run number = (at : Position) → IsPositionOf run number at → ⊥
 
--- The position is the saved one, and a run of the plan may be at it: the names are those of the instances in their order, and
+-- The position is the saved one, and a run of the plan may have it: the names are those of the instances in their order, and
 -- each has as many words as its state.
 pub record FitsSaved (plan : Planned) (saved : Saved) (at : Position) : Type 0 where
   pub position : FitsPosition plan.run saved.row saved.point saved.states at

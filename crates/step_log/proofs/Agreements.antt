@@ -1,5 +1,5 @@
 -- What is agreed on, found instance by instance from the slots of a run in its trial.
-use Rattle.std.proofs.Common.{◌≡◌, ◌∙◌, ℕ, ◌+◌, ◌<◌, ◌≤◌, ◌==◌, true, false, cond, List, [], ◌∷◌, length, zip, get_or, Option, Some, None, Result, refl, ap, sym, subst, arith}
+use Rattle.std.proofs.Common.{◌≡◌, ◌∙◌, ℕ, ◌+◌, ◌≤◌, ◌==◌, true, false, cond, is_some, List, [], ◌∷◌, length, zip, get_or, Option, Some, None, Result, refl, ap, sym, subst, arith}
 use Rattle.std.proofs.lemmas.List.{length-map}
 use Rattle.std.proofs.lemmas.Option.{get_or_from_slice_get, slice_get_within}
 use Rattle.std.specs.Prelude.{slice_get, nat_lt, IfSome}
@@ -7,12 +7,12 @@ use Rattle.event_runs.proofs.TurnLaws.{replies_are}
 use Rattle.event_runs.specs.Readings.{pace_of}
 use Rattle.fixed_words.specs.declared.types.Fault.{Fault}
 use Rattle.run_laws.proofs.PositionLaws.{agreed_is_at_most}
-use Rattle.step_rule.specs.Steps.{or_least}
+use Rattle.step_rule.specs.Steps.{ending_or}
 use Rattle.std.specs.Result.{result_ok}
 use Rattle.step_log.specs.Negotiated.{least_reply, shortener_of}
 use Rattle.step_log.specs.Steps.{first_given, shortened_to, unless}
 use Rattle.step_log.proofs.StepsMade.{StepHere, TellsStep}
-use Rattle.trace_core.proofs.LoopLaws.{ToldFrom, told_all, told_none, told_some}
+use Rattle.step_rule.proofs.StepLaws.{EndFrom, end_here, end_next, end_none}
 use Rattle.trace_core.specs.Runs.{IsPhase, RunState, Stands}
 use Rattle.trace_core.specs.declared.phase.Phase.TheVariants.{Trial}
 use Rattle.step_rule.specs.declared.steps.Slot.{Slot}
@@ -30,7 +30,7 @@ zipped_few [] ys = omega arith
 zipped_few (x ∷ xs) [] = omega arith
 zipped_few (x ∷ xs) (y ∷ ys) = let rest = zipped_few xs ys in omega (arith, rest)
 
-unless_ok : (end : Option Ending) (least : ℕ) → result_ok (or_least end least) ≡ unless end least
+unless_ok : (end : Option Ending) (least : ℕ) → result_ok (ending_or end least) ≡ unless end least
 unless_ok None least = refl
 unless_ok (Some ending) least = refl
 
@@ -49,13 +49,7 @@ module _ (r : RunState) (h : ℕ) where
 
   -- No instance before this one replies the agreed step.
   abbrev pub ShortenedFrom : ℕ → ℕ → Type 0
-  ShortenedFrom agreed = ToldFrom (shortened_to t h agreed) pairs
-
-  steps_few : length steps ≤ length run.members
-  steps_few =
-      let long = length-map (standings run r.stand.at) (step_at r.stand.at.point.t h r.stand.ports) in
-      let few = zipped_few run.members r.stand.at.states in
-      omega (arith, long, few)
+  ShortenedFrom agreed = EndFrom (shortened_to t h agreed) pairs
 
   pub pairs_few : length pairs ≤ length run.members
   pairs_few =
@@ -70,7 +64,7 @@ module _ (r : RunState) (h : ℕ) where
     tried = (subst (λ phase. IsPhase run r.stand phase r.cells) in_trial stands.phase_is).is
 
     -- The agreed step of the run is the least reply to its trial.
-    pub least_agreed : result_ok (or_least (trial_end run r.stand.at r.stand.ports) (agreed run r.stand.at r.stand.ports)) ≡ least_reply r h
+    pub least_agreed : result_ok (ending_or (trial_end run r.stand.at r.stand.ports) (agreed run r.stand.at r.stand.ports)) ≡ least_reply r h
     least_agreed =
         unless_ok (trial_end run r.stand.at r.stand.ports) (agreed run r.stand.at r.stand.ports)
         ∙ ap (unless (trial_end run r.stand.at r.stand.ports))
@@ -78,25 +72,20 @@ module _ (r : RunState) (h : ℕ) where
         (replies_are t (proposed run r.stand.at r.stand.ports) run.members (trial run r.stand.at r.stand.ports)))
         ∙ sym (ap (least_reply r) tried)
 
-    pub agreed_most : IfSome (result_ok (or_least (trial_end run r.stand.at r.stand.ports) (agreed run r.stand.at r.stand.ports))) (λ least. least ≤ h)
+    pub agreed_most : IfSome (result_ok (ending_or (trial_end run r.stand.at r.stand.ports) (agreed run r.stand.at r.stand.ports))) (λ least. least ≤ h)
     agreed_most = by (trial_end run r.stand.at r.stand.ports)
       where
-        by : (end : Option Ending) → IfSome (result_ok (or_least end (agreed run r.stand.at r.stand.ports))) (λ least. least ≤ h)
+        by : (end : Option Ending) → IfSome (result_ok (ending_or end (agreed run r.stand.at r.stand.ports))) (λ least. least ≤ h)
         by (Some ending) = tt
         by None = subst (λ step. agreed run r.stand.at r.stand.ports ≤ step) (sym tried) (agreed_is_at_most run r.stand.at r.stand.ports stands.members stands.words)
 
   -- ---- The first that replies it
 
-  read_pair : (instance : ℕ) (pair : ℕ × Option (Result Moved Fault)) → slice_get pairs instance ≡ Some pair
-      → (instance < length pairs) × (pair ≡ get_or pairs instance pair)
-  read_pair instance pair is = (slice_get_within pairs instance pair is, sym (get_or_from_slice_get pairs instance pair pair is))
-
   module _ (agreed : ℕ) where
     pass : (instance factor : ℕ) (step : Option (Result Moved Fault)) → slice_get pairs instance ≡ Some (factor, step)
         → shortened_to t h agreed (instance, (factor, step)) ≡ None → ShortenedFrom agreed instance → ShortenedFrom agreed (instance + 1)
     pass instance factor step is none so_far =
-        let read = read_pair instance (factor, step) is in
-        told_none (shortened_to t h agreed) pairs instance (factor, step) read.0 read.1 none so_far
+        end_next (shortened_to t h agreed) pairs instance (factor, step) is (ap is_some none) so_far
 
     unmade : (told : Slot) → ((accepted : ℕ) → told ≡ slot.Took accepted → ⊥) → (instance factor : ℕ) (step : Option (Result Moved Fault))
         → TellsStep factor t h step told → shortened_to t h agreed (instance, (factor, step)) ≡ None
@@ -128,15 +117,16 @@ module _ (r : RunState) (h : ℕ) where
         → (reply == agreed) ≡ true → nat_lt agreed h ≡ true → ShortenedFrom agreed instance
         → Some (record { instance = instance; accepted = accepted }) ≡ shortener_of r h agreed
     first_found instance accepted reply here is same shorter so_far =
-        let read = read_pair instance (here.member.factor, here.step) here.pair_is in
-        told_some (shortened_to t h agreed) pairs instance (here.member.factor, here.step) (record { instance = instance; accepted = accepted }) read.0 read.1
-        (reply_test instance accepted here
-        ∙ ap (λ test. when test (record { instance = instance; accepted = accepted })) (ap (λ n. n == agreed) (sym is) ∙ same)) so_far
+        let told : shortened_to t h agreed (instance, (here.member.factor, here.step)) ≡ Some (record { instance = instance; accepted = accepted }) =
+        reply_test instance accepted here
+        ∙ ap (λ test. when test (record { instance = instance; accepted = accepted })) (ap (λ n. n == agreed) (sym is) ∙ same) in
+        sym told
+        ∙ end_here (shortened_to t h agreed) pairs instance (here.member.factor, here.step) here.pair_is (ap is_some told) so_far
         ∙ sym (ap (λ test. cond test (first_given (shortened_to t h agreed) pairs) None) shorter)
 
     pub none_found : (instance : ℕ) → length run.members ≤ instance → nat_lt agreed h ≡ true → ShortenedFrom agreed instance → None ≡ shortener_of r h agreed
     none_found instance past shorter so_far =
-        told_all (shortened_to t h agreed) pairs instance (let few = pairs_few in omega (arith, few, past)) so_far
+        end_none (shortened_to t h agreed) pairs instance (let few = pairs_few in omega (arith, few, past)) so_far
         ∙ sym (ap (λ test. cond test (first_given (shortened_to t h agreed) pairs) None) shorter)
 
     pub not_shorter : nat_lt agreed h ≡ false → None ≡ shortener_of r h agreed

@@ -1,5 +1,5 @@
 -- A run at the beginning of its trial, and the limits there.
-use Rattle.std.proofs.Common.{◌≡◌, ◌∙◌, ℕ, ◌+◌, ◌-◌, ◌≤◌, ◌==◌, cond, Bool, true, false, List, [], ◌∷◌, length, map, zip, Option, Some, None, refl, ap, sym, arith}
+use Rattle.std.proofs.Common.{◌≡◌, ◌∙◌, ℕ, ◌+◌, ◌-◌, ◌≤◌, ◌==◌, cond, is_some, Bool, true, false, List, [], ◌∷◌, length, map, zip, Option, Some, None, refl, ap, sym, arith}
 use Rattle.std.proofs.lemmas.List.{length-map}
 use Rattle.std.proofs.lemmas.Option.{get_or_from_slice_get, slice_get_within, slice_get-map}
 use Rattle.std.proofs.lemmas.Bool.{eq-eqb, eqb-true}
@@ -11,7 +11,7 @@ use Rattle.step_log.proofs.Agreements.{zipped_few}
 use Rattle.step_log.specs.Negotiated.{IsBegun, limiter_of, limits_of}
 use Rattle.step_log.specs.Steps.{limited_to, limiter_or}
 use Rattle.step_counts.specs.declared.step.Limiter.TheVariants as limiter
-use Rattle.trace_core.proofs.LoopLaws.{ToldFrom, told_all, told_none, told_some}
+use Rattle.step_rule.proofs.StepLaws.{EndFrom, end_here, end_next, end_none}
 use Rattle.trace_core.specs.Runs.{Held, Empty, RunState, cell_of, is_filled}
 use Rattle.trace_core.specs.declared.phase.Phase.TheVariants.{Ended}
 use Rattle.trace_rows.proofs.FreshRuns.{fresh_tried}
@@ -77,7 +77,7 @@ module _ (r : RunState) where
   module _ (h : ℕ) where
     -- No instance before this one has the limit.
     abbrev pub LimitedFrom : ℕ → Type 0
-    LimitedFrom = ToldFrom (limited_to h) (limits_of r)
+    LimitedFrom = EndFrom (limited_to h) (limits_of r)
 
     abbrev left : ℕ
     left = r.plan.run.stop - r.stand.at.point.t
@@ -94,9 +94,7 @@ module _ (r : RunState) where
         → option_map (limit_at t r.stand.ports) (slice_get (standings r.plan.run r.stand.at) instance) ≡ Some limit → (limit ≡ Some h → ⊥)
         → LimitedFrom instance → LimitedFrom (instance + 1)
     pass_limit instance limit is not so_far =
-        let there = limit_there instance limit is in
-        told_none (limited_to h) (limits_of r) instance limit (slice_get_within (limits_of r) instance limit there)
-        (sym (get_or_from_slice_get (limits_of r) instance limit limit there)) (other_limit instance limit not) so_far
+        end_next (limited_to h) (limits_of r) instance limit (limit_there instance limit is) (ap is_some (other_limit instance limit not)) so_far
 
     same_limit : (instance : ℕ) → limited_to h (instance, Some h) ≡ Some instance
     same_limit instance = ap (λ same. when same instance) (eq-eqb h h refl)
@@ -105,12 +103,11 @@ module _ (r : RunState) where
         → option_map (limit_at t r.stand.ports) (slice_get (standings r.plan.run r.stand.at) instance) ≡ Some limit → limit ≡ Some h
         → LimitedFrom instance → limiter.Instance instance ≡ limiter_of r h
     limit_found instance limit is same so_far =
-        let there = limit_there instance limit is in
+        let told : limited_to h (instance, limit) ≡ Some instance = ap (λ one. limited_to h (instance, one)) same ∙ same_limit instance in
         ap (λ found. limiter_or found left h)
-        (told_some (limited_to h) (limits_of r) instance limit instance (slice_get_within (limits_of r) instance limit there)
-        (sym (get_or_from_slice_get (limits_of r) instance limit limit there)) (ap (λ one. limited_to h (instance, one)) same ∙ same_limit instance) so_far)
+        (sym told ∙ end_here (limited_to h) (limits_of r) instance limit (limit_there instance limit is) (ap is_some told) so_far)
 
     pub no_limit : (instance : ℕ) → length r.plan.run.members ≤ instance → LimitedFrom instance → limiter_or None left h ≡ limiter_of r h
     no_limit instance past so_far =
         ap (λ found. limiter_or found left h)
-        (told_all (limited_to h) (limits_of r) instance (let few = limits_few in omega (arith, few, past)) so_far)
+        (end_none (limited_to h) (limits_of r) instance (let few = limits_few in omega (arith, few, past)) so_far)

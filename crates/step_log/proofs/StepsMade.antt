@@ -51,9 +51,6 @@ pub record StepHere (r : RunState) (h instance : ℕ) (told : Slot) : Type 0 whe
 abbrev made_by : ℕ → ℕ → Ports → Member → List ℤ → Result Moved Fault
 made_by t h ports member state = step_of member.component state (inputs_at ports member) (local_time member.factor t) (local_step member.factor t h)
 
-unfull : (cell : Cell) → is_empty_cell cell ≡ false → cell ≡ Empty → ⊥
-unfull cell full is = let none : true ≡ false = ap is_empty_cell (sym is) ∙ full in absurd (cc)
-
 held_none : (held : Bool) (result : Result Moved Fault) → held ≡ true → cond held None (Some result) ≡ None
 held_none held result is = ap (λ (b : Bool). cond b None (Some result)) is
 

@@ -34,10 +34,6 @@ use Rattle.unit_tree.specs.declared.system.System.{System}
 
 -- ---- Fewer steps than stands
 
-one_at_most : (step : Option AgreedStep) → length (cons_option step []) ≤ 1
-one_at_most None = omega arith
-one_at_most (Some step) = omega arith
-
 few_steps : (run : Composition) (stands : List Stand) → length (plain_steps run stands) ≤ length stands
 unfolding plain_steps
 few_steps run [] = omega arith

@@ -1,14 +1,13 @@
 -- Loops over the elements of a list: what is left of it, items by their numbers, the first item that tells something, tests, the least.
-use Rattle.std.proofs.Common.{◌≡◌, ◌∙◌, ℕ, zero, suc, ◌+◌, ◌≤◌, min, Bool, true, false, ◌&&◌, is_some, List, [], ◌∷◌, length, map, drop, Option, Some, None, refl, sym}
+use Rattle.std.proofs.Common.{◌≡◌, ◌∙◌, ℕ, zero, suc, ◌+◌, ◌≤◌, ◌<◌, min, get_or, Bool, true, false, ◌&&◌, is_some, List, [], ◌∷◌, length, map, drop, Option, Some, None, refl, sym}
 use Rattle.std.proofs.Common.{ap, ap₂, arith}
-use Rattle.std.proofs.lemmas.List.{drop_all}
+use Rattle.std.proofs.lemmas.List.{at_drop_more, drop_all}
 use Rattle.std.proofs.lemmas.Option.{slice_get-map}
 use Rattle.std.specs.Prelude.{slice_get}
 use Rattle.std.specs.List.{enumerate_from, list_all}
 use Rattle.std.specs.Option.{option_map}
-use Rattle.unit_tree.specs.Negotiation.{least_of}
+use Rattle.unit_tree.specs.Negotiation.{agreed_step, least_of}
 use Rattle.unit_tree.specs.Ports.{first_some}
-use Rattle.unit_tree.specs.declared.ending.Ending.{Ending}
 
 -- ---- What is left of a list
 
@@ -26,9 +25,6 @@ left_is xs k x is = by_clauses xs k x is ∙ ap (λ count. x ∷ drop count xs) 
 -- A loop over a list: what holds of the elements that are left holds of the whole.
 pub record Along {X Y : Type 0} (tell : List X → Y) (xs : List X) (k : ℕ) : Type 0 where
   pub is : tell (drop k xs) ≡ tell xs
-
-pub begun : {X Y : Type 0} (tell : List X → Y) (xs : List X) → Along tell xs 0
-begun tell xs = record { is = refl }
 
 pub along_next : {X Y : Type 0} (tell : List X → Y) (xs : List X) (k : ℕ) (x : X) → slice_get xs k ≡ Some x
     → tell (x ∷ drop (k + 1) xs) ≡ tell (drop (k + 1) xs) → Along tell xs k → Along tell xs (k + 1)
@@ -68,6 +64,17 @@ pub least_next : (least first : ℕ) (numbers : List ℕ) → least_of least (fi
 least_next least first [] = refl
 least_next least first (next ∷ numbers) = omega arith
 
+-- The least of the numbers up to a place, from the least of those before it.
+pub least_at : (least place : ℕ) (numbers : List ℕ) → place < length numbers
+    → least_of least (drop place numbers) ≡ least_of (min least (get_or numbers place 0)) (drop (place + 1) numbers)
+least_at least place numbers within =
+    at_drop_more (least_of least) numbers place 0 within ∙ least_next least (get_or numbers place 0) (drop (place + 1) numbers)
+
+-- The agreed step, where it is at most the step, is the least of this and of the replies.
+pub least_agreed : (h : ℕ) (replies : List ℕ) → agreed_step h replies ≤ h → least_of h replies ≡ agreed_step h replies
+least_agreed h [] most = refl
+least_agreed h (reply ∷ replies) most = omega (arith, most)
+
 -- The least so far, with what is left, is the least of all.
 pub record Least (first : ℕ) (numbers : List ℕ) (k least : ℕ) : Type 0 where
   pub is : least_of least (drop k numbers) ≡ least_of first numbers
@@ -81,24 +88,24 @@ one_lesser first numbers k least number is so = record {
 pub least_is : (first : ℕ) (numbers : List ℕ) (k least : ℕ) → length numbers ≤ k → Least first numbers k least → least ≡ least_of first numbers
 least_is first numbers k least past so = sym (ap (least_of least) (drop_all k numbers past)) ∙ so.is
 
--- ---- An end that is found item by item
+-- ---- What the first of some items tells
 
--- No item before a place has an end.
-abbrev pub ToldFrom : List (Option Ending) → ℕ → Type 0
-ToldFrom ends k = Along first_some ends k
+-- No item before a place tells anything.
+abbrev pub ToldFrom : {B : Type 0} → List (Option B) → ℕ → Type 0
+ToldFrom found k = Along first_some found k
 
-pub told_next : (ends : List (Option Ending)) (k : ℕ) (end : Option Ending) → slice_get ends k ≡ Some end → is_some end ≡ false → ToldFrom ends k
-    → ToldFrom ends (k + 1)
-told_next ends k None is none so = along_next first_some ends k None is refl so
-told_next ends k (Some ending) is none so = absurd (cc)
+pub told_next : {B : Type 0} (found : List (Option B)) (k : ℕ) (one : Option B) → slice_get found k ≡ Some one → is_some one ≡ false → ToldFrom found k
+    → ToldFrom found (k + 1)
+told_next found k None is none so = along_next first_some found k None is refl so
+told_next found k (Some told) is none so = absurd (cc)
 
-pub told_here : (ends : List (Option Ending)) (k : ℕ) (end : Option Ending) → slice_get ends k ≡ Some end → is_some end ≡ true → ToldFrom ends k
-    → end ≡ first_some ends
-told_here ends k None is some so = absurd (cc)
-told_here ends k (Some ending) is some so = along_here first_some ends k (Some ending) (Some ending) is refl so
+pub told_here : {B : Type 0} (found : List (Option B)) (k : ℕ) (one : Option B) → slice_get found k ≡ Some one → is_some one ≡ true → ToldFrom found k
+    → one ≡ first_some found
+told_here found k None is some so = absurd (cc)
+told_here found k (Some told) is some so = along_here first_some found k (Some told) (Some told) is refl so
 
-pub told_none : (ends : List (Option Ending)) (k : ℕ) → length ends ≤ k → ToldFrom ends k → None ≡ first_some ends
-told_none ends k past so = along_end first_some ends k None past refl so
+pub told_none : {B : Type 0} (found : List (Option B)) (k : ℕ) → length found ≤ k → ToldFrom found k → None ≡ first_some found
+told_none found k past so = along_end first_some found k None past refl so
 
 -- ---- A test of all items
 
@@ -112,6 +119,3 @@ all_next test xs k x is so_test so = along_next (list_all test) xs k x is (ap (�
 pub all_fails : {X : Type 0} (test : X → Bool) (xs : List X) (k : ℕ) (x : X) → slice_get xs k ≡ Some x → test x ≡ false → AllFrom test xs k
     → false ≡ list_all test xs
 all_fails test xs k x is fails so = along_here (list_all test) xs k x false is (ap (λ one. one && list_all test (drop (k + 1) xs)) fails) so
-
-pub all_hold : {X : Type 0} (test : X → Bool) (xs : List X) (k : ℕ) → length xs ≤ k → AllFrom test xs k → true ≡ list_all test xs
-all_hold test xs k past so = along_end (list_all test) xs k true past refl so

@@ -1,4 +1,4 @@
 pub mod AlongLaws
-pub mod LeastLaws
+pub mod LimitLaws
 pub mod MemberLaws
 pub mod StepLaws

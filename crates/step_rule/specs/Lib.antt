@@ -1,2 +1,5 @@
 pub mod AfterStep
+pub mod Courses
+pub mod Laws
+pub mod Limits
 pub mod Steps

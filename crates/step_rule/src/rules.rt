@@ -1,11 +1,14 @@
-ghost use Rattle.std.specs.Prelude.{◌≡◌, ◌≤◌, ◌<◌, ◌+◌, ◌^◌, ℕ, length, min};
+ghost use Rattle.std.specs.Prelude.{◌≡◌, ◌≤◌, ◌<◌, ◌+◌, ◌-◌, ◌^◌, ℕ, length, min};
 ghost use Rattle.step_rule.specs.AfterStep.{after_step};
+ghost use Rattle.step_rule.specs.Limits.{is_held_by, limited};
 ghost use Rattle.super_time.specs.LocalTime.{local_step};
 ghost use Rattle.unit_tree.specs.Negotiation.{agreed_step, is_held, proposal_of, reply_of};
 ghost use Rattle.unit_tree.specs.Successor.{point_after};
 ghost use Rattle.model_rules.specs.Limits.{zero_limit};
 
+use fixed_words::Fault;
 use super_time::{Point, limit, local_step};
+use unit_tree::{Ending, Place};
 
 /// Where a run goes after a step.
 #[derive(Clone, Copy, Debug, PartialEq, Eq)]
@@ -15,13 +18,21 @@ pub enum NextPoint {
     ZeroBudget,
 }
 
-/// Returns the proposed step at `t`: the longest one that passes neither the stop nor a limit and is at most `longest`.
+/// Returns the longest step at `t` that a system allows: it doesn't pass the stop, and is at most `longest`.
+pub fn longest_step(stop: u64, longest: u64, t: u64) -> u64
+    requires before_stop { t ≤ stop }
+    ensures { result ≡ min (stop - t) longest }
+{
+    (stop - t).min(longest)
+}
+
+/// Returns the proposed step at `t`: the longest one that the system allows and that passes no limit.
 pub fn propose(stop: u64, longest: u64, t: u64, limits: &[u128]) -> u64
     requires before_stop { t ≤ stop }
     requires stop { stop ≤ 10 ^ 15 }
     ensures { result ≡ proposal_of stop longest t limits.now }
 {
-    let mut least = (stop - t).min(longest);
+    let mut least = longest_step(stop, longest, t);
     for limit in limits {
         least = capped(least, *limit);
     }
@@ -39,13 +50,49 @@ pub fn capped(length: u64, limit: u128) -> u64
     }
 }
 
-/// Returns whether a component is held in a step of `h` from `t`: the step has a length, and no local tick ends in it.
+/// Returns the proposed step after the `max` of one more component, which has this number and returned `told` at `t`. `least` is the
+/// proposed step without this component.
+///
+/// # Errors
+///
+/// A `max` with a fault ends the run.
+pub fn limited(
+    least: u64,
+    instance: u32,
+    factor: u64,
+    t: u64,
+    told: Result<Option<u64>, Fault>,
+) -> Result<u64, Ending>
+    requires factor { 1 ≤ factor }
+    requires coarsest { factor ≤ 10 ^ 9 }
+    requires time { t ≤ 10 ^ 15 }
+    ensures { result ≡ limited least instance factor t told }
+{
+    match told {
+        Ok(Some(local)) => Ok(capped(least, limit(factor, t, local))),
+        Ok(None) => Ok(least),
+        Err(fault) => Err(Ending::UnitFault {
+            instance,
+            place: Place::Max,
+            fault,
+        }),
+    }
+}
+
+/// Returns whether a component whose local step is `step` is held in a step of `h`: the step has a length, and no local tick ends in it.
+pub fn is_held_by(h: u64, step: u64) -> bool
+    ensures { result ≡ is_held_by h step }
+{
+    h > 0 && step == 0
+}
+
+/// Returns whether a component is held in a step of `h` from `t`.
 pub fn is_held(factor: u64, t: u64, h: u64) -> bool
     requires factor { 1 ≤ factor }
     requires end { t + h ≤ 10 ^ 15 }
     ensures { result ≡ is_held factor t h }
 {
-    h > 0 && local_step(factor, t, h) == 0
+    is_held_by(h, local_step(factor, t, h))
 }
 
 /// Returns the reply of a component to a step of `h` from `t`, in ticks of the system. `accepted` is how many local ticks

@@ -2,7 +2,7 @@
 ghost use Rattle.std.specs.Prelude.{◌≡◌, ◌≤◌, ◌+◌, ◌^◌, length, min};
 ghost use Rattle.std.specs.List.{list_all};
 ghost use Rattle.model_rules.specs.Limits.{instance_limit};
-ghost use Rattle.step_rule.specs.Steps.{AreAsked, IsAsked, is_made, redo_end_by, redo_of, reply_by, trial_end_by, trial_of};
+ghost use Rattle.step_rule.specs.Steps.{AreAsked, IsAsked, is_made, ends_redo, redo_result, reply_by, ends_trial, trial_result};
 
 use crate::rules::capped;
 use fixed_words::Fault;
@@ -48,7 +48,7 @@ pub trait Steps {
     fn step(&self, instance: usize) -> Step
         requires there { instance < length (steps self.now) }
         ensures step { slice_get (steps self.now) instance ≡ Some result }
-        ensures least { 1 ≤ result.factor }
+        ensures factor { 1 ≤ result.factor }
         ensures coarsest { result.factor ≤ 10 ^ 9 };
 }
 
@@ -73,7 +73,7 @@ pub fn are_made<S: Steps>(steps: &S) -> bool
 
 /// Returns how the step of a component ends the run in a trial, if it does: by its fault.
 fn trial_end(instance: u32, step: Step) -> Option<Ending>
-    ensures { result ≡ trial_end_by (instance, step) }
+    ensures { result ≡ ends_trial (instance, step) }
 {
     match step.slot {
         Slot::Failed(fault) => Some(Ending::UnitFault {
@@ -86,8 +86,8 @@ fn trial_end(instance: u32, step: Step) -> Option<Ending>
 }
 
 /// Returns the reply of a component to a step of `h` from `t`, or `least` where that is less.
-fn least_with(least: u64, step: Step, t: u64, h: u64) -> u64
-    requires least { 1 ≤ step.factor }
+fn lesser_reply(least: u64, step: Step, t: u64, h: u64) -> u64
+    requires factor { 1 ≤ step.factor }
     requires coarsest { step.factor ≤ 10 ^ 9 }
     requires asked { IsAsked t h step }
     requires at_most { least ≤ h }
@@ -107,7 +107,7 @@ pub fn read_trial<S: Steps>(steps: &S, t: u64, h: u64) -> Result<u64, Ending>
     requires asked { AreAsked t h (S.steps steps.now) }
     requires count { length (S.steps steps.now) ≤ instance_limit }
     requires end { t + h ≤ 10 ^ 15 }
-    ensures { result ≡ trial_of t h (S.steps steps.now) }
+    ensures { result ≡ trial_result t h (S.steps steps.now) }
 {
     let mut least = h;
     for instance in 0..steps.count() {
@@ -115,7 +115,7 @@ pub fn read_trial<S: Steps>(steps: &S, t: u64, h: u64) -> Result<u64, Ending>
         if let Some(ending) = trial_end(instance as u32, step) {
             return Err(ending);
         }
-        least = least_with(least, step, t, h);
+        least = lesser_reply(least, step, t, h);
     }
     Ok(least)
 }
@@ -123,7 +123,7 @@ pub fn read_trial<S: Steps>(steps: &S, t: u64, h: u64) -> Result<u64, Ending>
 /// Returns how the step of a component ends the run in a redo, if it does: by its fault, or because it accepted less than the
 /// whole step.
 fn redo_end(instance: u32, step: Step) -> Option<Ending>
-    ensures { result ≡ redo_end_by (instance, step) }
+    ensures { result ≡ ends_redo (instance, step) }
 {
     match step.slot {
         Slot::Took(accepted) if accepted < step.asked => Some(Ending::StepRefused {
@@ -137,9 +137,9 @@ fn redo_end(instance: u32, step: Step) -> Option<Ending>
 
 /// Reads a redo. Returns how the first component that has a fault or accepts less than the whole step ends the run, or `None`
 /// where there is none.
-pub fn read_redo<S: Steps>(steps: &S) -> Option<Ending>
+pub(crate) fn read_redo<S: Steps>(steps: &S) -> Option<Ending>
     requires count { length (S.steps steps.now) ≤ instance_limit }
-    ensures { result ≡ redo_of (S.steps steps.now) }
+    ensures { result ≡ redo_result (S.steps steps.now) }
 {
     for instance in 0..steps.count() {
         let end = redo_end(instance as u32, steps.step(instance));

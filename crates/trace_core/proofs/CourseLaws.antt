@@ -1,17 +1,18 @@
 -- Where a run goes from a phase whose cells are full is where the successor leads from its stand.
-use Rattle.std.proofs.Common.{◌≡◌, ◌∙◌, ℕ, suc, ◌+◌, ◌==◌, ◌≤◌, ◌&&◌, Bool, true, false, ℤ, List, [], ◌∷◌, map, zip, Option, Some, None, refl, sym, ap, subst, arith}
+use Rattle.std.proofs.Common.{◌≡◌, ◌∙◌, ℕ, suc, ◌+◌, ◌==◌, ◌≤◌, ◌&&◌, Bool, true, false, ℤ, List, map, zip, Option, Some, None, refl, sym, ap, subst, arith}
 use Rattle.std.proofs.lemmas.Bool.Decides.{nat_tests}
 use Rattle.std.specs.Prelude.{nat_lt, if◌then◌else◌}
 use Rattle.super_time.specs.declared.point.Point.{Point}
-use Rattle.step_rule.specs.Steps.{or_least, redo_of, trial_of}
-use Rattle.trace_core.specs.Courses.{course_by, course_on, end_or, course_of_trial, course_of_redo}
+use Rattle.step_rule.proofs.AlongLaws.{least_agreed}
+use Rattle.step_rule.specs.Courses.{course_by, course_of_redo, course_of_trial, course_on, end_or}
+use Rattle.step_rule.specs.Steps.{ending_or, redo_result, trial_result}
+use Rattle.step_rule.specs.declared.courses.Course.{Course}
+use Rattle.step_rule.specs.declared.courses.Course.TheVariants.{Redo, On, End}
 use Rattle.trace_core.specs.Seats.{AreSeats, AreFull, seat_steps}
-use Rattle.trace_core.specs.declared.course.Course.{Course}
-use Rattle.trace_core.specs.declared.course.Course.TheVariants.{Redo, On, End}
 use Rattle.trace_core.specs.declared.seat.Seat.{Seat}
 use Rattle.trace_core.proofs.SlotLaws.{AreOfOneLength, redo_read, trial_read, units_hold}
 use Rattle.unit_tree.specs.Compositions.{Composition, AreMembers}
-use Rattle.unit_tree.specs.Negotiation.{agreed_step, least_of, state_after}
+use Rattle.unit_tree.specs.Negotiation.{least_of, state_after}
 use Rattle.unit_tree.specs.Successor.{Position, when, first_told, step_end_of, standings, steps_by, replies_to, trial_end, redo_end_by, redo_end, zero_end}
 use Rattle.unit_tree.specs.Successor.{proposed, agreed, is_redone, point_after, after, goes, ends, successor}
 use Rattle.unit_tree.specs.Trace.{Stand, IsGoing, HasWords}
@@ -50,10 +51,10 @@ LeadsFromRedo run stand h (End ending) = successor run stand.at stand.ports ≡ 
 abbrev is_spent : Composition → Stand → ℕ → Bool
 is_spent run stand h = (h == 0) && (stand.at.point.n == run.zero_budget)
 
-spent_course : (run : Composition) (stand : Stand) (h : ℕ) → is_spent run stand h ≡ true → course_on run stand.at.point h ≡ End ZeroBudget
+spent_course : (run : Composition) (stand : Stand) (h : ℕ) → is_spent run stand h ≡ true → course_on run.zero_budget stand.at.point h ≡ End ZeroBudget
 spent_course run stand h spent = rw spent refl
 
-free_course : (run : Composition) (stand : Stand) (h : ℕ) → is_spent run stand h ≡ false → course_on run stand.at.point h ≡ On (point_after stand.at.point h)
+free_course : (run : Composition) (stand : Stand) (h : ℕ) → is_spent run stand h ≡ false → course_on run.zero_budget stand.at.point h ≡ On (point_after stand.at.point h)
 free_course run stand h free = rw free refl
 
 zero_there : (run : Composition) (stand : Stand) (h : ℕ) → h ≡ agreed run stand.at stand.ports → is_spent run stand h ≡ true
@@ -71,11 +72,6 @@ position_is point other states others number count points kept numbers =
     ∙ ap (λ one. record { point = other; states = one; number = number }) kept
     ∙ ap (λ one. record { point = other; states = others; number = one }) numbers
 
--- The least of a step and of replies is the agreed step, where this is no longer than the step.
-least_agreed : (h : ℕ) (replies : List ℕ) → agreed_step h replies ≤ h → least_of h replies ≡ agreed_step h replies
-least_agreed h [] most = refl
-least_agreed h (reply ∷ replies) most = omega (arith, most)
-
 module _ (run : Composition) (stand : Stand) (going : IsGoing run stand) where
   no_redo_end : is_redone run stand.at stand.ports ≡ false → redo_end run stand.at stand.ports ≡ None
   no_redo_end whole = ap (λ redone. if redone then redo_end_by run stand.at stand.ports (agreed run stand.at stand.ports) else None) whole
@@ -90,7 +86,7 @@ module _ (run : Composition) (stand : Stand) (going : IsGoing run stand) where
   not_due whole due = cc (whole, due.shorter)
 
   whole_by : (spent : Bool) (h : ℕ) → is_spent run stand h ≡ spent → h ≡ agreed run stand.at stand.ports → trial_end run stand.at stand.ports ≡ None
-      → is_redone run stand.at stand.ports ≡ false → LeadsFromTrial run stand h (course_on run stand.at.point h)
+      → is_redone run stand.at stand.ports ≡ false → LeadsFromTrial run stand h (course_on run.zero_budget stand.at.point h)
   whole_by true h spent is no_fault whole =
       subst (LeadsFromTrial run stand h) (sym (spent_course run stand h spent))
       (not_due whole, (ends_in_order run stand going).zero_ends ZeroBudget no_fault (no_redo_end whole) (zero_there run stand h is spent))
@@ -116,7 +112,7 @@ module _ (run : Composition) (stand : Stand) (going : IsGoing run stand) where
 
   no_fault_by : (redone : Bool) (h least : ℕ) → is_redone run stand.at stand.ports ≡ redone → h ≡ proposed run stand.at stand.ports
       → least ≡ agreed run stand.at stand.ports → AreMembers run → HasWords run stand.at → trial_end run stand.at stand.ports ≡ None
-      → LeadsFromTrial run stand h (if redone then Redo least else course_on run stand.at.point h)
+      → LeadsFromTrial run stand h (if redone then Redo least else course_on run.zero_budget stand.at.point h)
   no_fault_by true h least redone is least_is are words no_fault = (record { no_fault = no_fault; shorter = redone }, least_is)
   no_fault_by false h least redone is least_is are words no_fault =
       whole_by (is_spent run stand h) h refl (is ∙ same_length are words redone) no_fault redone
@@ -124,7 +120,7 @@ module _ (run : Composition) (stand : Stand) (going : IsGoing run stand) where
   module _ (h : ℕ) (units : List (List ℤ)) (seats : List Seat) (long : AreOfOneLength run.members stand.at.states units seats)
       (are : AreSeats stand.at.point.t h stand.ports (standings run stand.at) units seats) (full : AreFull seats) where
     trial_by : (found : Option Ending) → trial_end run stand.at stand.ports ≡ found → h ≡ proposed run stand.at stand.ports → AreMembers run
-        → HasWords run stand.at → LeadsFromTrial run stand h (course_by run stand.at.point h (or_least found (agreed run stand.at stand.ports)))
+        → HasWords run stand.at → LeadsFromTrial run stand h (course_by run.zero_budget stand.at.point h (ending_or found (agreed run stand.at stand.ports)))
     trial_by (Some ending) told is members words = ((λ due. cc (told, due.no_fault)), (ends_in_order run stand going).trial_ends ending told)
     trial_by None told is members words =
         no_fault_by (nat_lt (agreed run stand.at stand.ports) h) h (agreed run stand.at stand.ports)
@@ -132,18 +128,18 @@ module _ (run : Composition) (stand : Stand) (going : IsGoing run stand) where
 
     -- What is read of the trial.
     pub read_is : h ≡ proposed run stand.at stand.ports → AreMembers run → HasWords run stand.at
-        → trial_of stand.at.point.t h (seat_steps run.members seats) ≡ or_least (trial_end run stand.at stand.ports) (agreed run stand.at stand.ports)
+        → trial_result stand.at.point.t h (seat_steps run.members seats) ≡ ending_or (trial_end run stand.at stand.ports) (agreed run stand.at stand.ports)
     read_is is members words =
         trial_read stand.at.point.t h stand.ports run.members stand.at.states units seats long are full
-        ∙ ap (λ step. or_least (first_told step_end_of (steps_by run stand.at stand.ports step)) (least_of step (replies_to run stand.at stand.ports step))) is
-        ∙ ap (or_least (trial_end run stand.at stand.ports))
+        ∙ ap (λ step. ending_or (first_told step_end_of (steps_by run stand.at stand.ports step)) (least_of step (replies_to run stand.at stand.ports step))) is
+        ∙ ap (ending_or (trial_end run stand.at stand.ports))
         (least_agreed (proposed run stand.at stand.ports) (replies_to run stand.at stand.ports (proposed run stand.at stand.ports))
         (agreed_is_at_most run stand.at stand.ports members words))
 
     pub trial_leads : h ≡ proposed run stand.at stand.ports → AreMembers run → HasWords run stand.at
-        → LeadsFromTrial run stand h (course_of_trial run stand.at.point h seats)
+        → LeadsFromTrial run stand h (course_of_trial run.zero_budget stand.at.point h (seat_steps run.members seats))
     trial_leads is members words =
-        subst (λ read. LeadsFromTrial run stand h (course_by run stand.at.point h read)) (sym (read_is is members words))
+        subst (λ read. LeadsFromTrial run stand h (course_by run.zero_budget stand.at.point h read)) (sym (read_is is members words))
         (trial_by (trial_end run stand.at stand.ports) refl is members words)
 
     -- The units have the states of the position to which the run goes.
@@ -161,7 +157,7 @@ module _ (run : Composition) (stand : Stand) (going : IsGoing run stand) where
 
     redone_by : (spent : Bool) → is_spent run stand h ≡ spent → h ≡ agreed run stand.at stand.ports → trial_end run stand.at stand.ports ≡ None
         → is_redone run stand.at stand.ports ≡ true → redo_end_by run stand.at stand.ports (agreed run stand.at stand.ports) ≡ None
-        → LeadsFromRedo run stand h (course_on run stand.at.point h)
+        → LeadsFromRedo run stand h (course_on run.zero_budget stand.at.point h)
     redone_by true spent is no_fault shorter told =
         subst (LeadsFromRedo run stand h) (sym (spent_course run stand h spent))
         ((ends_in_order run stand going).zero_ends ZeroBudget no_fault (redo_end_is shorter ∙ told) (zero_there run stand h is spent))
@@ -174,20 +170,20 @@ module _ (run : Composition) (stand : Stand) (going : IsGoing run stand) where
         })
 
     told_anew : h ≡ agreed run stand.at stand.ports
-        → redo_of (seat_steps run.members seats) ≡ redo_end_by run stand.at stand.ports (agreed run stand.at stand.ports)
+        → redo_result (seat_steps run.members seats) ≡ redo_end_by run stand.at stand.ports (agreed run stand.at stand.ports)
     told_anew is = redo_read stand.at.point.t h stand.ports run.members stand.at.states units seats long are full
         ∙ ap (redo_end_by run stand.at stand.ports) is
 
-    redo_by : (found : Option Ending) → redo_of (seat_steps run.members seats) ≡ found → h ≡ agreed run stand.at stand.ports
+    redo_by : (found : Option Ending) → redo_result (seat_steps run.members seats) ≡ found → h ≡ agreed run stand.at stand.ports
         → trial_end run stand.at stand.ports ≡ None → is_redone run stand.at stand.ports ≡ true
-        → LeadsFromRedo run stand h (course_of_redo run stand.at.point h seats)
+        → LeadsFromRedo run stand h (course_of_redo run.zero_budget stand.at.point h (seat_steps run.members seats))
     redo_by (Some ending) found is no_fault shorter =
-        subst (λ one. LeadsFromRedo run stand h (end_or one (course_on run stand.at.point h))) (sym found)
+        subst (λ one. LeadsFromRedo run stand h (end_or one (course_on run.zero_budget stand.at.point h))) (sym found)
         ((ends_in_order run stand going).redo_ends ending no_fault shorter (sym (told_anew is) ∙ found))
     redo_by None found is no_fault shorter =
-        subst (λ one. LeadsFromRedo run stand h (end_or one (course_on run stand.at.point h))) (sym found)
+        subst (λ one. LeadsFromRedo run stand h (end_or one (course_on run.zero_budget stand.at.point h))) (sym found)
         (redone_by (is_spent run stand h) refl is no_fault shorter (sym (told_anew is) ∙ found))
 
     pub redo_leads : h ≡ agreed run stand.at stand.ports → trial_end run stand.at stand.ports ≡ None → is_redone run stand.at stand.ports ≡ true
-        → LeadsFromRedo run stand h (course_of_redo run stand.at.point h seats)
-    redo_leads is no_fault shorter = redo_by (redo_of (seat_steps run.members seats)) refl is no_fault shorter
+        → LeadsFromRedo run stand h (course_of_redo run.zero_budget stand.at.point h (seat_steps run.members seats))
+    redo_leads is no_fault shorter = redo_by (redo_result (seat_steps run.members seats)) refl is no_fault shorter

@@ -487,7 +487,6 @@ module _ (r : Inside) (is : IsRun r) (seat : Seat) (instance : ℕ)
         ports = is.room.ports;
         known = is.room.known;
         seats = ap length seats_are ∙ length-set r.seats.items instance new_seat ∙ is.room.seats;
-        limits = is.room.limits;
       };
       own_ids = own_kept r.seats.items seats.items ids_same is.own_ids;
       saved = subst (AreSaved r.snaps seats.items) (sym states_same)

@@ -168,7 +168,7 @@ module _ (old : Inside) (is : IsRun old) (units : Fleet) (seats : Vec Seat Globa
   redone_run stands tied states inputs = record {
     stands = subst Stands (sym redone_is) stands;
     tied = tied ∙ is.tied;
-    room = record { ports = is.room.ports; known = is.room.known; seats = begun.as_many ∙ is.room.seats; limits = is.room.limits };
+    room = record { ports = is.room.ports; known = is.room.known; seats = begun.as_many ∙ is.room.seats };
     own_ids = own_kept old.seats.items seats.items begun_kept.ids is.own_ids;
     saved = subst (AreSaved old.snaps seats.items) (sym same_states)
         (are_saved_kept old.snaps old.seats.items seats.items (saved old.snaps old.seats.items) begun_kept.ids is.saved);
@@ -194,7 +194,7 @@ pub ended_run : (old : Inside) (ending : Ending) → IsRun old
 ended_run old ending is stands = record {
   stands = stands;
   tied = is.tied;
-  room = record { ports = is.room.ports; known = is.room.known; seats = is.room.seats; limits = is.room.limits };
+  room = record { ports = is.room.ports; known = is.room.known; seats = is.room.seats };
   own_ids = is.own_ids;
   saved = is.saved;
   before = is.before;

@@ -1,72 +1,35 @@
--- Loops over all instances: results that are found one after the other, lists that are changed element by element, and limits and
--- snapshots.
+-- Loops over all instances: lists that are changed element by element, limits and snapshots.
 use Rattle.std.proofs.Common.{◌≡◌, ◌∙◌, Bool, true, false, nat_eq, ℕ, zero, suc, ◌+◌, ◌<◌, ◌≤◌, ℤ, List, [], ◌∷◌, ◌++◌, length, map, take, drop, get_or, set}
-use Rattle.std.proofs.Common.{Option, Some, None, Result, Ok, Err, refl, ap, sym, subst, arith, append_assoc, append-nil, length-set, get_or-set_same}
+use Rattle.std.proofs.Common.{◌-◌, min, is_some, Option, Some, None, Result, Ok, Err, refl, ap, sym, subst, arith, append_assoc, length-set, get_or-set_same}
 use Rattle.std.proofs.Common.{get_or-set_other}
-use Rattle.std.proofs.lemmas.List.{at_drop_more, drop_more, drop_all, take_more, take_more_set, set_at, get_or_at, length-take-le, length-map}
+use Rattle.std.proofs.lemmas.List.{drop_more, drop_all, take_more, set_at, get_or_at, length-take-le, length-map}
 use Rattle.std.proofs.lemmas.List.{get_or-map}
 use Rattle.std.proofs.lemmas.Bool.Decides.{nat_tests}
-use Rattle.std.proofs.lemmas.Option.{same_Some, get_or_from_slice_get, slice_get_within}
+use Rattle.std.proofs.lemmas.Slice.Zip.{length-zip}
+use Rattle.std.proofs.lemmas.Option.{same_Some, get_or_from_slice_get}
 use Rattle.std.specs.Prelude.{zip, slice_get, IsSome, if◌then◌else◌}
-use Rattle.std.specs.List.{AllByRecursion, AllZip, enumerate_from, cons_option}
+use Rattle.std.specs.List.{AllByRecursion, AllZip}
 use Rattle.fixed_words.specs.declared.types.Fault.{Fault}
 use Rattle.snap_store.specs.Store.{Store, words_of, IsLive, HasLength, KeepsOthers}
 use Rattle.port_solve.specs.Solved.{HaveStates, HaveInputs}
-use Rattle.super_time.specs.LocalTime.{local_time, limit_of}
+use Rattle.super_time.specs.LocalTime.{local_time}
 use Rattle.trace_core.specs.Seats.{AreAsLong, AreSaved, saved, HaveOwnIds, IsCommitted, max_told, all_told}
-use Rattle.trace_core.specs.Seats.{limits_told, ending_or, asked}
+use Rattle.trace_core.specs.Seats.{limit_by_told, limits_told, asked}
+use Rattle.step_rule.specs.Limits.{with_limit}
+use Rattle.step_rule.specs.Steps.{ending_or}
+use Rattle.step_rule.proofs.LimitLaws.{Proposes, none_proposed, proposed_is, proposes_next}
+use Rattle.step_rule.proofs.StepLaws.{EndFrom, end_here, end_next, end_none}
 use Rattle.trace_plan.specs.Plans.{Planned, ForMember, places_from, has_max}
 use Rattle.trace_units.specs.Fleets.{Fleet, ForUnit, with_state}
 use Rattle.trace_core.specs.declared.seat.Seat.{Seat}
 use Rattle.unit_tree.specs.Compositions.{Member, Composition}
 use Rattle.unit_tree.specs.Components.{max_of, limit_by, environment_of}
 use Rattle.unit_tree.specs.Negotiation.{limit_told, proposal_of}
-use Rattle.unit_tree.specs.Ports.{first_some}
 use Rattle.unit_tree.specs.Successor.{max_end_of}
-use Rattle.unit_tree.specs.declared.ending.Ending.TheVariants.{UnitFault}
-use Rattle.unit_tree.specs.declared.ending.Place.TheVariants as call
+use Rattle.unit_tree.specs.declared.ending.Ending.{Ending}
 use Rattle.list_laws.proofs.Members.{at_place}
-use Rattle.list_laws.proofs.Pairs.{zip_at}
+use Rattle.list_laws.proofs.Pairs.{zip_at, zip_there}
 use Rattle.list_laws.proofs.Options.{none_told}
-
--- ---- What is found item by item
-
-module _ {A B : Type 0} (tell : ℕ × A → Option B) (items : List A) where
-  -- No item before a place tells anything: the first that is told is that of the items from there on.
-  abbrev pub ToldFrom : ℕ → Type 0
-  ToldFrom place = first_some (map tell (enumerate_from place (drop place items))) ≡ first_some (map tell (enumerate_from 0 items))
-
-  told_here : (place : ℕ) (item : A) → place < length items → item ≡ get_or items place item
-      → first_some (map tell (enumerate_from place (drop place items)))
-      ≡ first_some (tell (place, item) ∷ map tell (enumerate_from (place + 1) (drop (place + 1) items)))
-  told_here place item within is =
-      at_drop_more (λ left. first_some (map tell (enumerate_from place left))) items place item within
-      ∙ ap (λ one. first_some (tell (place, one) ∷ map tell (enumerate_from (place + 1) (drop (place + 1) items)))) (sym is)
-
-  pub told_none : (place : ℕ) (item : A) → place < length items → item ≡ get_or items place item → tell (place, item) ≡ None → ToldFrom place
-      → ToldFrom (place + 1)
-  told_none place item within is none so_far =
-      sym (told_here place item within is ∙ ap (λ one. first_some (one ∷ map tell (enumerate_from (place + 1) (drop (place + 1) items)))) none) ∙ so_far
-
-  pub told_some : (place : ℕ) (item : A) (told : B) → place < length items → item ≡ get_or items place item → tell (place, item) ≡ Some told
-      → ToldFrom place → Some told ≡ first_some (map tell (enumerate_from 0 items))
-  told_some place item told within is some so_far =
-      sym (told_here place item within is ∙ ap (λ one. first_some (one ∷ map tell (enumerate_from (place + 1) (drop (place + 1) items)))) some) ∙ so_far
-
-  pub told_all : (place : ℕ) → length items ≤ place → ToldFrom place → None ≡ first_some (map tell (enumerate_from 0 items))
-  told_all place past so_far = sym (ap (λ left. first_some (map tell (enumerate_from place left))) (drop_all place items past)) ∙ so_far
-
--- ---- A list that is made element by element
-
--- So many elements are made, and the others are still to be made.
-abbrev pub MadeSoFar : {A : Type 0} → List A → ℕ → List A → List A → Type 0
-MadeSoFar made count rest whole = take count made ++ rest ≡ whole
-
-pub one_made : {A : Type 0} (made : List A) (count : ℕ) (x : A) (rest left whole : List A) → count < length made → left ≡ x ∷ rest
-    → MadeSoFar made count left whole → MadeSoFar (set made count x) (count + 1) rest whole
-one_made made count x rest left whole within is so_far =
-    ap (λ front. front ++ rest) (take_more_set made count x within) ∙ append_assoc (take count made) (x ∷ []) rest
-    ∙ sym (ap (λ others. take count made ++ others) is) ∙ so_far
 
 -- ---- A list that is changed element by element
 
@@ -150,20 +113,6 @@ told_at t (one ∷ members) (had ∷ states) (fed ∷ inputs) zero member state 
 told_at t (one ∷ members) (had ∷ states) (fed ∷ inputs) (suc k) member state words member_is state_is words_are =
     told_at t members states inputs k member state words member_is state_is words_are
 
-next_limit : (t k : ℕ) (members : List Member) (told : List (Result (Option ℕ) Fault)) (member : Member) (one : Result (Option ℕ) Fault)
-    → slice_get members k ≡ Some member → slice_get told k ≡ Some one
-    → limits_told t (drop k members) (drop k told) ≡ cons_option (limit_told member.factor t one) (limits_told t (drop (k + 1) members) (drop (k + 1) told))
-next_limit t k [] told member one member_is is = absurd (cc)
-next_limit t k (first ∷ members) [] member one member_is is = absurd (cc)
-next_limit t zero (first ∷ members) (given ∷ told) member one member_is is =
-    ap (λ some. cons_option (limit_told some.factor t given) (limits_told t members told)) (same_Some first member member_is)
-    ∙ ap (λ some. cons_option (limit_told member.factor t some) (limits_told t members told)) (same_Some given one is)
-next_limit t (suc k) (first ∷ members) (given ∷ told) member one member_is is =
-    let same : suc (k + 1) ≡ suc k + 1 = omega arith in
-    subst (λ next. limits_told t (drop k members) (drop k told)
-    ≡ cons_option (limit_told member.factor t one) (limits_told t (drop next (first ∷ members)) (drop next (given ∷ told)))) same
-    (next_limit t k members told member one member_is is)
-
 -- The result of an instance, with its member.
 pub record HasTold (t instance factor : ℕ) (members : List Member) (told : List (Result (Option ℕ) Fault)) (one : Result (Option ℕ) Fault) : Type 0 where
   pub member : Member
@@ -208,56 +157,37 @@ unit_told t instance factor time plan fleet now one tied kept time_is have_state
     (λ member state words member_is. gives_then member state words
     (subst (λ (p : Planned). slice_get p.run.members instance ≡ Some member) (sym tied) member_is))
 
--- No instance before a place ended the run, and their limits are known.
-pub record AskedSoFar (t : ℕ) (members : List Member) (told : List (Result (Option ℕ) Fault)) (place count : ℕ) (limits : List ℕ) : Type 0 where
-  pub no_end : ToldFrom max_end_of told place
-  pub made : MadeSoFar limits count (limits_told t (drop place members) (drop place told)) (limits_told t members told)
-  pub few : count ≤ place
+-- No instance before a place ended the run, and this is the proposed step by their limits.
+pub record AskedSoFar (t : ℕ) (members : List Member) (told : List (Result (Option ℕ) Fault)) (first place least : ℕ) : Type 0 where
+  pub no_end : EndFrom max_end_of told place
+  pub proposes : Proposes (limit_by_told t) (zip members told) first place least
 
-module _ (t : ℕ) (members : List Member) (told : List (Result (Option ℕ) Fault)) where
-  read_told : (place : ℕ) (one : Result (Option ℕ) Fault) → slice_get told place ≡ Some one → one ≡ get_or told place one
-  read_told place one is = sym (get_or_from_slice_get told place one one is)
+pub one_asked : (t : ℕ) (members : List Member) (told : List (Result (Option ℕ) Fault)) (first place least factor : ℕ) (one : Result (Option ℕ) Fault)
+    → HasTold t place factor members told one → max_end_of (place, one) ≡ None → AskedSoFar t members told first place least
+    → AskedSoFar t members told first (place + 1) (with_limit least (limit_told factor t one))
+one_asked t members told first place least factor one has none so_far = record {
+  no_end = end_next max_end_of told place one has.told_is (ap is_some none) so_far.no_end;
+  proposes =
+      subst (λ f. Proposes (limit_by_told t) (zip members told) first (place + 1) (with_limit least (limit_told f t one))) (sym has.factor_is)
+      (proposes_next (limit_by_told t) (zip members told) first place least (has.member, one)
+      (zip_there members told place has.member one has.member_is has.told_is) so_far.proposes);
+}
 
-  pub next_without : (place count factor : ℕ) (limits : List ℕ) → HasTold t place factor members told (Ok None) → AskedSoFar t members told place count limits
-      → AskedSoFar t members told (place + 1) count limits
-  next_without place count factor limits has so_far = record {
-    no_end = told_none max_end_of told place (Ok None) (slice_get_within told place (Ok None) has.told_is)
-        (read_told place (Ok None) has.told_is) refl so_far.no_end;
-    made = ap (λ rest. take count limits ++ rest) (sym (next_limit t place members told has.member (Ok None) has.member_is has.told_is)) ∙ so_far.made;
-    few = let few = so_far.few in omega arith;
-  }
-
-  pub next_with : (place count factor local : ℕ) (limits : List ℕ) → count < length limits → HasTold t place factor members told (Ok (Some local))
-      → AskedSoFar t members told place count limits → AskedSoFar t members told (place + 1) (count + 1) (set limits count (limit_of factor t local))
-  next_with place count factor local limits within has so_far = record {
-    no_end = told_none max_end_of told place (Ok (Some local)) (slice_get_within told place (Ok (Some local)) has.told_is)
-        (read_told place (Ok (Some local)) has.told_is) refl so_far.no_end;
-    made =
-        one_made limits count (limit_of factor t local) (limits_told t (drop (place + 1) members) (drop (place + 1) told))
-        (limits_told t (drop place members) (drop place told)) (limits_told t members told) within
-        (next_limit t place members told has.member (Ok (Some local)) has.member_is has.told_is
-        ∙ ap (λ n. limit_of n t local ∷ limits_told t (drop (place + 1) members) (drop (place + 1) told)) (sym has.factor_is))
-        so_far.made;
-    few = let few = so_far.few in omega arith;
-  }
-
-pub asked_fault : (run : Composition) (t place count factor : ℕ) (told : List (Result (Option ℕ) Fault)) (limits : List ℕ) (fault : Fault)
-    → HasTold t place factor run.members told (Err fault) → AskedSoFar t run.members told place count limits
-    → Err (UnitFault place call.Max fault) ≡ asked run t told
-asked_fault run t place count factor told limits fault has so_far =
+pub asked_fault : (run : Composition) (t first place least factor : ℕ) (told : List (Result (Option ℕ) Fault)) (one : Result (Option ℕ) Fault) (ending : Ending)
+    → HasTold t place factor run.members told one → max_end_of (place, one) ≡ Some ending → AskedSoFar t run.members told first place least
+    → Err ending ≡ asked run t told
+asked_fault run t first place least factor told one ending has ends so_far =
     ap (λ end. ending_or end (proposal_of run.stop run.longest t (limits_told t run.members told)))
-    (told_some max_end_of told place (Err fault) (UnitFault place call.Max fault) (slice_get_within told place (Err fault) has.told_is)
-    (sym (get_or_from_slice_get told place (Err fault) (Err fault) has.told_is)) refl so_far.no_end)
+    (sym ends ∙ end_here max_end_of told place one has.told_is (ap is_some ends) so_far.no_end)
 
-pub all_asked : (run : Composition) (t place count : ℕ) (told : List (Result (Option ℕ) Fault)) (limits : List ℕ) → length run.members ≤ place
-    → length told ≤ place → AskedSoFar t run.members told place count limits → Ok (proposal_of run.stop run.longest t (take count limits)) ≡ asked run t told
-all_asked run t place count told limits past told_past so_far =
-    let rest : limits_told t (drop place run.members) (drop place told) ≡ [] =
-    ap (λ some. limits_told t some (drop place told)) (drop_all place run.members past) in
-    let made : take count limits ≡ limits_told t run.members told = sym (append-nil (take count limits)) ∙ ap (λ some. take count limits ++ some) (sym rest)
-    ∙ so_far.made in
-    ap (λ some. Ok (proposal_of run.stop run.longest t some)) made
-    ∙ ap (λ end. ending_or end (proposal_of run.stop run.longest t (limits_told t run.members told))) (told_all max_end_of told place told_past so_far.no_end)
+pub all_asked : (run : Composition) (t place least : ℕ) (told : List (Result (Option ℕ) Fault)) → length run.members ≤ place → length told ≤ place
+    → AskedSoFar t run.members told (min (run.stop - t) run.longest) place least → Ok least ≡ asked run t told
+all_asked run t place least told past told_past so_far =
+    ap (λ l. Ok l)
+    (proposed_is (limit_by_told t) (zip run.members told) run.stop run.longest t place least (omega (arith, length-zip run.members told, past))
+    so_far.proposes)
+    ∙ ap (λ end. ending_or end (proposal_of run.stop run.longest t (limits_told t run.members told)))
+    (end_none max_end_of told place told_past so_far.no_end)
 
 pub told_many : (t : ℕ) (members : List Member) (states inputs : List (List ℤ)) → length (all_told t members states inputs) ≤ length members
 told_many t [] states inputs = omega arith
@@ -268,21 +198,21 @@ told_many t (member ∷ members) (state ∷ states) (words ∷ inputs) = let few
 -- ---- Those that set no limit
 
 -- The limits of all instances before a place were computed, or they set none. Those that are left are the ones from there on with a limit.
-pub record Asking (t : ℕ) (members : List Member) (told : List (Result (Option ℕ) Fault)) (waiting : List ℕ) (count : ℕ) (limits : List ℕ) : Type 0 where
+pub record Asking (t : ℕ) (members : List Member) (told : List (Result (Option ℕ) Fault)) (waiting : List ℕ) (first least : ℕ) : Type 0 where
   pub place : ℕ
   pub within : place ≤ length members
   pub are : waiting ≡ places_from place (map has_max (drop place members))
-  pub so_far : AskedSoFar t members told place count limits
+  pub so_far : AskedSoFar t members told first place least
 
 -- The limit of the next one is computed.
-pub record AskedNext (t : ℕ) (members : List Member) (told : List (Result (Option ℕ) Fault)) (instance : ℕ) (waiting : List ℕ) (count : ℕ)
-    (limits : List ℕ) : Type 0 where
+pub record AskedNext (t : ℕ) (members : List Member) (told : List (Result (Option ℕ) Fault)) (instance : ℕ) (waiting : List ℕ)
+    (first least : ℕ) : Type 0 where
   pub within : instance < length members
   pub are : waiting ≡ places_from (instance + 1) (map has_max (drop (instance + 1) members))
-  pub so_far : AskedSoFar t members told instance count limits
+  pub so_far : AskedSoFar t members told first instance least
 
-module _ (t : ℕ) (run : Composition) (states inputs : List (List ℤ)) (have_states : HaveStates run states) (have_inputs : HaveInputs run inputs) (count : ℕ)
-    (limits : List ℕ) where
+module _ (t : ℕ) (run : Composition) (states inputs : List (List ℤ)) (have_states : HaveStates run states) (have_inputs : HaveInputs run inputs)
+    (first least : ℕ) where
   abbrev all : List (Result (Option ℕ) Fault)
   all = all_told t run.members states inputs
 
@@ -310,10 +240,10 @@ module _ (t : ℕ) (run : Composition) (states inputs : List (List ℤ)) (have_s
           (omega (arith, behind.0), behind.1, subst (λ n. drop n (first ∷ members) ≡ left) same behind.2)
 
   passed : (place : ℕ) (member : Member) (left : List Member) → drop place run.members ≡ member ∷ left → has_max member ≡ false
-      → AskedSoFar t run.members all place count limits → AskedSoFar t run.members all (place + 1) count limits
+      → AskedSoFar t run.members all first place least → AskedSoFar t run.members all first (place + 1) least
   passed place member left is no_max so_far =
       let here = member_here place member left is in
-      next_without t run.members all place count member.factor limits (quiet place member here.0 here.1 no_max) so_far
+      one_asked t run.members all first place least member.factor (Ok None) (quiet place member here.0 here.1 no_max) refl so_far
 
   -- The instances that are left, by whether the first member sets a limit.
   places_by : (place : ℕ) (member : Member) (left : List Member) (so : Bool) → has_max member ≡ so
@@ -325,17 +255,17 @@ module _ (t : ℕ) (run : Composition) (states inputs : List (List ℤ)) (have_s
       ∙ ap (λ k. if so then place ∷ places_from k (map has_max left) else places_from k (map has_max left)) next
 
   abbrev Further : (left : List Member) (place instance : ℕ) (waiting : List ℕ) → Type 0
-  Further left place instance waiting = instance ∷ waiting ≡ places_from place (map has_max left) → AskedSoFar t run.members all place count limits
-      → AskedNext t run.members all instance waiting count limits
+  Further left place instance waiting = instance ∷ waiting ≡ places_from place (map has_max left) → AskedSoFar t run.members all first place least
+      → AskedNext t run.members all instance waiting first least
 
   next_by : (member : Member) (left : List Member) (place instance : ℕ) (waiting : List ℕ) (so : Bool) → has_max member ≡ so
       → drop place run.members ≡ member ∷ left → Further left (place + 1) instance waiting → Further (member ∷ left) place instance waiting
   next_by member left place instance waiting true so is further are so_far =
       let here = member_here place member left is in
       let told : instance ∷ waiting ≡ place ∷ places_from (place + 1) (map has_max left) = are ∙ places_by place member left true so in
-      let first : instance ≡ place = cc in
+      let instance_is : instance ≡ place = cc in
       let behind : waiting ≡ places_from (place + 1) (map has_max left) = cc in
-      subst (λ k. AskedNext t run.members all k waiting count limits) (sym first)
+      subst (λ k. AskedNext t run.members all k waiting first least) (sym instance_is)
       (record { within = here.0; are = behind ∙ ap (λ some. places_from (place + 1) (map has_max some)) (sym here.2); so_far = so_far })
   next_by member left place instance waiting false so is further are so_far =
       further (are ∙ places_by place member left false so) (passed place member left is so so_far)
@@ -346,16 +276,16 @@ module _ (t : ℕ) (run : Composition) (states inputs : List (List ℤ)) (have_s
       next_by member left place instance waiting (has_max member) refl is
       (next_from left (place + 1) instance waiting (member_here place member left is).2) are so_far
 
-  pub next_asked : (instance : ℕ) (waiting : List ℕ) → Asking t run.members all (instance ∷ waiting) count limits
-      → AskedNext t run.members all instance waiting count limits
+  pub next_asked : (instance : ℕ) (waiting : List ℕ) → Asking t run.members all (instance ∷ waiting) first least
+      → AskedNext t run.members all instance waiting first least
   next_asked instance waiting asking = next_from (drop asking.place run.members) asking.place instance waiting refl asking.are asking.so_far
 
   abbrev Past : Type 0
-  Past = (past : ℕ) × (length run.members ≤ past) × AskedSoFar t run.members all past count limits
+  Past = (past : ℕ) × (length run.members ≤ past) × AskedSoFar t run.members all first past least
 
   none_by : (member : Member) (left : List Member) (place : ℕ) (so : Bool) → has_max member ≡ so → drop place run.members ≡ member ∷ left
-      → ([] ≡ places_from (place + 1) (map has_max left) → AskedSoFar t run.members all (place + 1) count limits → Past)
-      → [] ≡ places_from place (map has_max (member ∷ left)) → AskedSoFar t run.members all place count limits → Past
+      → ([] ≡ places_from (place + 1) (map has_max left) → AskedSoFar t run.members all first (place + 1) least → Past)
+      → [] ≡ places_from place (map has_max (member ∷ left)) → AskedSoFar t run.members all first place least → Past
   none_by member left place true so is further are so_far =
       let told : [] ≡ place ∷ places_from (place + 1) (map has_max left) = are ∙ places_by place member left true so in
       absurd (cc)
@@ -367,21 +297,21 @@ module _ (t : ℕ) (run : Composition) (states inputs : List (List ℤ)) (have_s
   past_all (first ∷ members) (suc k) is = let behind = past_all members k is in omega (arith, behind)
 
   none_from : (left : List Member) (place : ℕ) → drop place run.members ≡ left → [] ≡ places_from place (map has_max left)
-      → AskedSoFar t run.members all place count limits → Past
+      → AskedSoFar t run.members all first place least → Past
   none_from [] place is are so_far = (place, past_all run.members place is, so_far)
   none_from (member ∷ left) place is are so_far =
       none_by member left place (has_max member) refl is (none_from left (place + 1) (member_here place member left is).2) are so_far
 
-  pub none_waits : Asking t run.members all [] count limits → Past
+  pub none_waits : Asking t run.members all [] first least → Past
   none_waits asking = none_from (drop asking.place run.members) asking.place refl asking.are asking.so_far
 
-pub none_asked : (t : ℕ) (members : List Member) (told : List (Result (Option ℕ) Fault)) (limits : List ℕ) → AskedSoFar t members told 0 0 limits
-none_asked t members told limits = record { no_end = refl; made = refl; few = omega arith }
+pub none_asked : (t : ℕ) (members : List Member) (told : List (Result (Option ℕ) Fault)) (first : ℕ) → AskedSoFar t members told first 0 first
+none_asked t members told first = record { no_end = record { is = refl }; proposes = none_proposed (limit_by_told t) (zip members told) first }
 
 -- The limits of the units of a plan, along the list of those that set a limit.
 module _ (t : ℕ) (plan : Planned) (fleet : Fleet) (tied : fleet.plan ≡ plan) (have_states : HaveStates fleet.plan.run fleet.states)
-    (have_inputs : HaveInputs fleet.plan.run fleet.inputs) (count : ℕ) (limits : List ℕ) (items : List ℕ) (index : ℕ)
-    (asking : Asking t plan.run.members (all_told t plan.run.members fleet.states fleet.inputs) (drop index items) count limits) where
+    (have_inputs : HaveInputs fleet.plan.run fleet.inputs) (first least : ℕ) (items : List ℕ) (index : ℕ)
+    (asking : Asking t plan.run.members (all_told t plan.run.members fleet.states fleet.inputs) (drop index items) first least) where
   states_there : HaveStates plan.run fleet.states
   states_there = subst (λ (p : Planned). HaveStates p.run fleet.states) tied have_states
 
@@ -389,23 +319,24 @@ module _ (t : ℕ) (plan : Planned) (fleet : Fleet) (tied : fleet.plan ≡ plan)
   inputs_there = subst (λ (p : Planned). HaveInputs p.run fleet.inputs) tied have_inputs
 
   pub unit_next : index < length items
-      → AskedNext t plan.run.members (all_told t plan.run.members fleet.states fleet.inputs) (get_or items index 0) (drop (index + 1) items) count limits
+      → AskedNext t plan.run.members (all_told t plan.run.members fleet.states fleet.inputs) (get_or items index 0) (drop (index + 1) items) first least
   unit_next within =
-      next_asked t plan.run fleet.states fleet.inputs states_there inputs_there count limits (get_or items index 0) (drop (index + 1) items)
-      (subst (λ waiting. Asking t plan.run.members (all_told t plan.run.members fleet.states fleet.inputs) waiting count limits)
+      next_asked t plan.run fleet.states fleet.inputs states_there inputs_there first least (get_or items index 0) (drop (index + 1) items)
+      (subst (λ waiting. Asking t plan.run.members (all_told t plan.run.members fleet.states fleet.inputs) waiting first least)
       (drop_more items index 0 within) asking)
 
-  pub units_asked : length items ≤ index
-      → Ok (proposal_of plan.run.stop plan.run.longest t (take count limits)) ≡ asked plan.run t (all_told t plan.run.members fleet.states fleet.inputs)
-  units_asked past =
+  pub units_asked : length items ≤ index → first ≡ min (plan.run.stop - t) plan.run.longest
+      → Ok least ≡ asked plan.run t (all_told t plan.run.members fleet.states fleet.inputs)
+  units_asked past first_is =
       let none =
-      none_waits t plan.run fleet.states fleet.inputs states_there inputs_there count limits
-      (subst (λ waiting. Asking t plan.run.members (all_told t plan.run.members fleet.states fleet.inputs) waiting count limits)
+      none_waits t plan.run fleet.states fleet.inputs states_there inputs_there first least
+      (subst (λ waiting. Asking t plan.run.members (all_told t plan.run.members fleet.states fleet.inputs) waiting first least)
       (drop_all index items past) asking) in
       let told_past : length (all_told t plan.run.members fleet.states fleet.inputs) ≤ none.0 = let many =
       told_many t plan.run.members fleet.states fleet.inputs in
       let past_members = none.1 in omega (arith, many, past_members) in
-      all_asked plan.run t none.0 count (all_told t plan.run.members fleet.states fleet.inputs) limits none.1 told_past none.2
+      all_asked plan.run t none.0 least (all_told t plan.run.members fleet.states fleet.inputs) none.1 told_past
+      (subst (λ from. AskedSoFar t plan.run.members (all_told t plan.run.members fleet.states fleet.inputs) from none.0 least) first_is none.2)
 
 -- ---- States that are restored
 

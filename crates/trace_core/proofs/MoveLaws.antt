@@ -9,7 +9,7 @@ use Rattle.trace_core.specs.Courses.{course_in}
 use Rattle.trace_core.specs.Keeping.{stand_of, position_of, cells_seen, inputs_before, run_state, IsRun}
 use Rattle.trace_core.specs.Runs.{RunState, Stands, IsOpened, AreCellsFull, ArePortsKnown, arrived, is_ended}
 use Rattle.trace_core.specs.Settling.{IsRedoDue, with_redo, Moves, Ends, Settled}
-use Rattle.trace_core.specs.declared.course.Course.TheVariants as course
+use Rattle.step_rule.specs.declared.courses.Course.TheVariants as course
 use Rattle.trace_core.specs.declared.phase.Phase.{Phase}
 use Rattle.trace_core.specs.declared.phase.Phase.TheVariants.{Ended}
 use Rattle.trace_core.specs.declared.run.Run.TheInside.{Inside}
@@ -28,14 +28,13 @@ use Rattle.unit_tree.specs.Trace.{Stand, Goes, IsStand, HasWords, IsInBounds, Is
 use Rattle.unit_tree.specs.declared.ending.Ending.{Ending}
 
 -- The run at its next point.
-abbrev pub moved_on : Inside → Fleet → Vec Seat Global → Store → Vec ℤ Global → Vec Bool Global → Vec ℕ Global → Phase → Point → Bool → Inside
-moved_on r units seats snaps ports known limits phase point solved = record r {
+abbrev pub moved_on : Inside → Fleet → Vec Seat Global → Store → Vec ℤ Global → Vec Bool Global → Phase → Point → Bool → Inside
+moved_on r units seats snaps ports known phase point solved = record r {
   units = units;
   seats = seats;
   snaps = snaps;
   ports = ports;
   known = known;
-  limits = limits;
   phase = phase;
   point = point;
   number = r.number + 1;
@@ -92,12 +91,12 @@ module _ (r : Inside) (is : IsRun r) (have : HaveStates r.plan.value.run r.units
         let on : Goes run (stand_of r) next = (led_on.1 ∙ ap goes (sym same), right) in
         subst (λ at. at.point.t ≤ run.stop) same (stands_moved (run_state r) next is.stands going on).in_bounds.stop
 
-    module _ (units : Fleet) (seats : Vec Seat Global) (snaps : Store) (ports : Vec ℤ Global) (known : Vec Bool Global) (limits : Vec ℕ Global)
+    module _ (units : Fleet) (seats : Vec Seat Global) (snaps : Store) (ports : Vec ℤ Global) (known : Vec Bool Global)
         (phase : Phase) (solved : Bool) (fault : Option Ending) (old : List Seat)
-        (come : Arrival (moved_on r units seats snaps ports known limits phase point solved) fault old) (kept : units.states ≡ r.units.states)
+        (come : Arrival (moved_on r units seats snaps ports known phase point solved) fault old) (kept : units.states ≡ r.units.states)
         (fed : inputs_before old ≡ r.units.inputs) where
       abbrev next : Inside
-      next = moved_on r units seats snaps ports known limits phase point solved
+      next = moved_on r units seats snaps ports known phase point solved
 
       on : Goes run (stand_of r) (stand_of next)
       on = (

@@ -1,5 +1,5 @@
 -- The steps of seats, one by one.
-use Rattle.std.proofs.Common.{◌≡◌, ◌∙◌, ℕ, ◌<◌, min, List, length, get_or, Some, sym, ap}
+use Rattle.std.proofs.Common.{◌≡◌, ◌∙◌, ℕ, ◌<◌, List, length, get_or, Some, sym, ap, arith}
 use Rattle.std.proofs.lemmas.List.{length-map}
 use Rattle.std.proofs.lemmas.Option.{slice_get-get_or}
 use Rattle.std.proofs.lemmas.Slice.Zip.{length-zip}
@@ -12,8 +12,8 @@ use Rattle.trace_core.specs.declared.seat.Seat.{Seat}
 use Rattle.trace_plan.specs.Plans.{ForMember}
 use Rattle.unit_tree.specs.Compositions.{Composition, Member}
 
-pub steps_long : (members : List Member) (seats : List Seat) → length (seat_steps members seats) ≡ min (length members) (length seats)
-steps_long members seats = length-map (zip members seats) seat_step ∙ length-zip members seats
+pub steps_long : (members : List Member) (seats : List Seat) → length seats ≡ length members → length (seat_steps members seats) ≡ length members
+steps_long members seats as_many = omega (arith, length-map (zip members seats) seat_step, length-zip members seats, as_many)
 
 pub step_there : (run : Composition) (seats : List Seat) (place factor : ℕ) (seat : Seat) → place < length run.members → place < length seats
     → ForMember run place (λ member. factor ≡ member.factor) → seat ≡ get_or seats place seat

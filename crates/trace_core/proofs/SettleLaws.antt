@@ -2,7 +2,7 @@
 use Rattle.std.proofs.Common.{◌≡◌, ◌∙◌, ℕ, ◌+◌, ◌*◌, ◌<◌, ◌≤◌, ◌^◌, false, ℤ, List, [], ◌∷◌, length, refl, sym, ap, subst, arith}
 use Rattle.std.proofs.lemmas.Nat.{mul-le}
 use Rattle.port_solve.specs.Solved.{HaveStates}
-use Rattle.step_rule.specs.Steps.{or_least, trial_of}
+use Rattle.step_rule.specs.Steps.{ending_or, trial_result}
 use Rattle.trace_core.specs.Courses.{course_in, IsReady}
 use Rattle.trace_core.specs.Seats.{seat_steps}
 use Rattle.unit_tree.specs.Successor.{trial_end}
@@ -11,8 +11,8 @@ use Rattle.trace_core.specs.Runs.{AreCellsFull, IsPhase, is_ended, is_empty_cell
 use Rattle.trace_core.specs.Slots.{is_empty}
 use Rattle.trace_core.specs.Seats.{AreFull, cell_in, cells_in}
 use Rattle.trace_core.specs.Settling.{IsRedoDue}
-use Rattle.trace_core.specs.declared.course.Course.{Course}
-use Rattle.trace_core.specs.declared.course.Course.TheVariants as course
+use Rattle.step_rule.specs.declared.courses.Course.{Course}
+use Rattle.step_rule.specs.declared.courses.Course.TheVariants as course
 use Rattle.trace_core.specs.declared.phase.Phase.{Phase}
 use Rattle.trace_core.specs.declared.phase.Phase.TheVariants.{Trial, Redo, Ended}
 use Rattle.trace_core.specs.declared.run.Run.TheInside.{Inside}
@@ -159,7 +159,7 @@ module _ (r : Inside) (is : IsRun r) (have : HaveStates r.plan.value.run r.units
 
   -- What is read of a trial.
   pub trial_is : (h : ℕ) → r.phase ≡ Trial h → AreCellsFull (cells_seen r.phase r.seats.items r.units.states)
-      → trial_of r.point.t h (seat_steps run.members r.seats.items) ≡ or_least (trial_end run stand.at stand.ports) (agreed run stand.at stand.ports)
+      → trial_result r.point.t h (seat_steps run.members r.seats.items) ≡ ending_or (trial_end run stand.at stand.ports) (agreed run stand.at stand.ports)
   trial_is h same full =
       let tried = phase_by (Trial h) same in
       let seen = full_by (Trial h) refl (subst (λ phase. AreCellsFull (cells_seen phase r.seats.items r.units.states)) same full) in

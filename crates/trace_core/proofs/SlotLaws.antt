@@ -9,7 +9,7 @@ use Rattle.fixed_words.specs.declared.types.Fault.{Fault}
 use Rattle.snap_store.specs.Store.{Store}
 use Rattle.super_time.specs.LocalTime.{local_time, local_step}
 use Rattle.trace_core.specs.Slots.{is_empty}
-use Rattle.step_rule.specs.Steps.{AreAsked, or_least, redo_of, slot_of, step_of, steps_of, trial_of}
+use Rattle.step_rule.specs.Steps.{AreAsked, ending_or, redo_result, result_slot, member_step, member_steps, trial_result}
 use Rattle.step_rule.proofs.MemberLaws.{redo_by_results, trial_by_results}
 use Rattle.trace_core.specs.Seats.{SlotIs, AreFull, IsSeat, AreSeats, IsBegun, AreBegun, AreSaved, saved, seat_step, seat_steps}
 use Rattle.trace_core.specs.declared.seat.Seat.{Seat}
@@ -26,11 +26,11 @@ use Rattle.unit_tree.specs.Successor.{first_told, step_end_of, redo_end_of}
 
 -- A full slot has the result of its step.
 slot_is : (step : Option (Result Moved Fault)) (given : Slot) (unit committed : List ℤ) → SlotIs step given unit committed → is_empty given ≡ false
-    → given ≡ slot_of step
-slot_is step slot.Held unit committed is full = sym (ap slot_of is.0)
+    → given ≡ result_slot step
+slot_is step slot.Held unit committed is full = sym (ap result_slot is.0)
 slot_is step slot.Empty unit committed is full = absurd (cc)
-slot_is step (slot.Took accepted) unit committed is full = sym (ap slot_of is)
-slot_is step (slot.Failed fault) unit committed is full = sym (ap slot_of is.0)
+slot_is step (slot.Took accepted) unit committed is full = sym (ap result_slot is)
+slot_is step (slot.Failed fault) unit committed is full = sym (ap result_slot is.0)
 
 full_keeps : (step : Option (Result Moved Fault)) (given : Slot) (unit committed : List ℤ) → SlotIs step given unit committed → is_empty given ≡ false
     → state_after (committed, step) ≡ unit
@@ -64,13 +64,13 @@ module _ (t h : ℕ) (ports : Ports) where
   results standings = map (step_at t h ports) standings
 
   step_is : (standing : Standing) (pair : List ℤ × Seat) → IsSeat t h ports standing pair → is_empty pair.1.slot ≡ false
-      → seat_step (standing.0, pair.1) ≡ step_of t h (standing.0, step_at t h ports standing)
+      → seat_step (standing.0, pair.1) ≡ member_step t h (standing.0, step_at t h ports standing)
   step_is standing pair is full =
       ap₂ (λ asked made. (record { factor = standing.0.factor; asked = asked; slot = made })) is.clock.step
       (slot_is (step_at t h ports standing) pair.1.slot pair.0 standing.1 is.slot full)
 
   steps_in : (standings : List Standing) (pairs : List (List ℤ × Seat)) → AreIn standings pairs → AreFullIn pairs
-      → seat_steps (members_in standings) (seats_in pairs) ≡ steps_of t h (members_in standings) (results standings)
+      → seat_steps (members_in standings) (seats_in pairs) ≡ member_steps t h (members_in standings) (results standings)
   steps_in [] [] are full = refl
   steps_in [] (pair ∷ pairs) are full = absurd are
   steps_in (standing ∷ standings) [] are full = absurd are
@@ -132,21 +132,21 @@ module _ (t h : ℕ) (ports : Ports) (members : List Member) (states units : Lis
     full_in = subst AreFull (sym seats_are) full
 
     -- The steps of the seats are those of the members, by their results.
-    steps_are : seat_steps members seats ≡ steps_of t h members results_of
+    steps_are : seat_steps members seats ≡ member_steps t h members results_of
     steps_are =
         ap₂ seat_steps (sym members_are) (sym seats_are)
         ∙ steps_in t h ports (zip members states) (zip units seats) are full_in
-        ∙ ap (λ some. steps_of t h some results_of) members_are
+        ∙ ap (λ some. member_steps t h some results_of) members_are
 
     results_long : length results_of ≡ length members
     results_long = length-map (zip members states) (step_at t h ports) ∙ omega (arith, length-zip members states, long.each_state)
 
-    pub trial_read : trial_of t h (seat_steps members seats)
-        ≡ or_least (first_told step_end_of results_of) (least_of h (map (reply_at t h) (zip members results_of)))
-    trial_read = ap (trial_of t h) steps_are ∙ trial_by_results t h members results_of results_long
+    pub trial_read : trial_result t h (seat_steps members seats)
+        ≡ ending_or (first_told step_end_of results_of) (least_of h (map (reply_at t h) (zip members results_of)))
+    trial_read = ap (trial_result t h) steps_are ∙ trial_by_results t h members results_of results_long
 
-    pub redo_read : redo_of (seat_steps members seats) ≡ first_told (redo_end_of t h) (zip members results_of)
-    redo_read = ap redo_of steps_are ∙ redo_by_results t h members results_of
+    pub redo_read : redo_result (seat_steps members seats) ≡ first_told (redo_end_of t h) (zip members results_of)
+    redo_read = ap redo_result steps_are ∙ redo_by_results t h members results_of
 
     pub units_hold : map state_after (zip states results_of) ≡ units
     units_hold =

@@ -65,7 +65,6 @@ pub record HasRoom (run : Composition) (inside : Inside) : Type 0 where
   pub ports : length inside.ports.items ≡ length (routes_of run).outputs
   pub known : length inside.known.items ≡ length (routes_of run).outputs
   pub seats : length inside.seats.items ≡ length run.members
-  pub limits : length inside.limits.items ≡ length run.members
 
 -- The run is as `Stands` says. Its units are those of its plan, and have the words of the inputs where all ports have words.
 -- Its snapshots have ids that differ, and their words are states.

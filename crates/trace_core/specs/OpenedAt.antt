@@ -8,7 +8,7 @@ use Rattle.unit_tree.specs.Parts.{joined}
 use Rattle.unit_tree.specs.Successor.{Position}
 use Rattle.unit_tree.specs.Trace.{HasWords, IsInBounds, IsInRows}
 
--- The position is that of the row, the point and the words, and a run may be at it: it has a word for each state, each of its
+-- The position is that of the row, the point and the words, and a run may have it: it has a word for each state, each of its
 -- type, and is within the stop and both budgets.
 pub record FitsPosition (run : Composition) (row : ℕ) (point : Point) (words : List ℤ) (at : Position) : Type 0 where
   pub number : at.number ≡ row

@@ -9,8 +9,10 @@ use Rattle.super_time.specs.LocalTime.{local_time, local_step}
 use Rattle.trace_core.specs.Runs.{Cell, Held, Empty, Filled}
 use Rattle.trace_core.specs.Slots.{is_empty}
 use Rattle.trace_core.specs.declared.seat.Seat.{Seat}
+use Rattle.trace_core.specs.declared.steps.Clock.{Clock}
 use Rattle.step_rule.specs.declared.steps.Slot.{Slot}
 use Rattle.step_rule.specs.declared.steps.Slot.TheVariants as slot
+use Rattle.step_rule.specs.Steps.{ending_or}
 use Rattle.step_rule.specs.declared.steps.Step.{Step}
 use Rattle.unit_tree.specs.Components.{Moved, max_of}
 use Rattle.unit_tree.specs.Compositions.{Member, Composition}
@@ -70,6 +72,12 @@ AreSeats t h ports standings units seats = AllZip (IsSeat t h ports) standings (
 abbrev pub fresh_slot : ℕ → ℕ → ℕ → Slot
 fresh_slot t h factor = if is_held factor t h then slot.Held else slot.Empty
 
+-- The clock of the members whose local tick is so many ticks, in a step of h from t.
+pub record IsClock (t h factor : ℕ) (clock : Clock) : Type 0 where
+  pub factor_is : clock.factor ≡ factor
+  pub time_is : clock.time ≡ local_time factor t
+  pub step_is : clock.step ≡ local_step factor t h
+
 -- The seat is prepared for a step of h from t.
 pub record IsBegun (t h factor : ℕ) (old new : Seat) : Type 0 where
   pub clock : HasClock t h factor new
@@ -88,6 +96,7 @@ pub record AreBegun (t h : ℕ) (members : List Member) (old new : List Seat) : 
 abbrev pub seat_step : Member × Seat → Step
 seat_step (member, seat) = record { factor = member.factor; asked = seat.step; slot = seat.slot }
 
+-- The steps of all seats, each for its member.
 abbrev pub seat_steps : List Member → List Seat → List Step
 seat_steps members seats = map seat_step (zip members seats)
 
@@ -101,14 +110,13 @@ max_told t (member, (state, inputs)) = max_of member.component state inputs (loc
 abbrev pub all_told : ℕ → List Member → List (List ℤ) → List (List ℤ) → List (Result (Option ℕ) Fault)
 all_told t members states inputs = map (max_told t) (zip members (zip states inputs))
 
+-- The limit that the result of a member's `max` sets at t.
+abbrev pub limit_by_told : ℕ → Member × Result (Option ℕ) Fault → Option ℕ
+limit_by_told t (member, told) = limit_told member.factor t told
+
 -- The limits among these results, of the members that have one.
 abbrev pub limits_told : ℕ → List Member → List (Result (Option ℕ) Fault) → List ℕ
-limits_told t members told = filter_map (λ one. limit_told one.0.factor t one.1) (zip members told)
-
--- This end, where there is one, and otherwise the proposed step.
-abbrev pub ending_or : Option Ending → ℕ → Result ℕ Ending
-ending_or (Some ending) proposal = Err ending
-ending_or None proposal = Ok proposal
+limits_told t members told = filter_map (limit_by_told t) (zip members told)
 
 -- The proposed step at t, or how a `max` ends the run.
 abbrev pub asked : Composition → ℕ → List (Result (Option ℕ) Fault) → Result ℕ Ending

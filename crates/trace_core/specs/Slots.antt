@@ -1,8 +1,9 @@
 -- Slots of steps: the slot of a step that was made, and of one that wasn't made yet.
-use Rattle.std.specs.Prelude.{ℕ, Bool, true, false, Result, Ok, Err}
+use Rattle.std.specs.Prelude.{ℕ, Bool, not, Result, Ok, Err}
 use Rattle.fixed_words.specs.declared.types.Fault.{Fault}
 use Rattle.trace_core.specs.Runs.{Cell}
 use Rattle.trace_core.specs.Runs as cell
+use Rattle.step_rule.specs.Steps.{is_full}
 use Rattle.step_rule.specs.declared.steps.Slot.{Slot}
 use Rattle.step_rule.specs.declared.steps.Slot.TheVariants.{Held, Empty, Took, Failed}
 
@@ -13,8 +14,7 @@ slot_for (Err fault) = Failed fault
 
 -- The step was not made yet.
 abbrev pub is_empty : Slot → Bool
-is_empty Empty = true
-is_empty _ = false
+is_empty slot = not (is_full slot)
 
 -- The slot of a cell: the result of its step without the state after it.
 abbrev pub slot_seen : Cell → Slot

@@ -81,7 +81,7 @@ fn are_state_words(plan: &Plan, words: &[i64]) -> bool
     }
 }
 
-/// Returns whether the run of a plan may be at this position.
+/// Returns whether a run of the plan may have this position.
 fn may_open(plan: &Plan, row: u64, point: Point, words: &[i64]) -> bool
     ensures may { result ≡ true → MayOpen plan.now.run row point words.now }
     ensures may_not { result ≡ false → FitsNone plan.now.run row point words.now }

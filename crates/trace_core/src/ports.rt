@@ -56,19 +56,16 @@ pub(crate) fn begin_phase(
     plan: &Plan,
     units: &mut Units,
     seats: &mut [Seat],
-    limits: &mut [u128],
     point: Point,
     number: u64,
     fault: Option<Ending>,
 ) -> Phase
     requires tied { units.old.plan ≡ plan.now }
     requires seats { length seats.old ≡ length plan.now.run.members }
-    requires limits { length limits.old ≡ length plan.now.run.members }
     requires stop { point.t ≤ plan.now.run.stop }
     requires rows { number < plan.now.run.row_budget }
     ensures phase { result ≡ ended_or fault (phase_there plan.now.run point number units.old.states units.old.inputs) }
     ensures begun { AreBegunIn point.t result plan.now.run.members seats.old seats.new }
-    ensures limits { length limits.new ≡ length limits.old }
     ensures kept { units.new ≡ units.old }
 {
     if let Some(ending) = fault {
@@ -80,7 +77,7 @@ pub(crate) fn begin_phase(
     if number + 1 == plan.row_limit() {
         return Phase::Ended(Ending::RowBudget);
     }
-    match ask_limits(plan, units, point.t, limits) {
+    match ask_limits(plan, units, point.t) {
         Ok(h) => {
             begin_all(plan, seats, point.t, h);
             Phase::Trial { h }

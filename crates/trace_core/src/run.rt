@@ -9,13 +9,13 @@ ghost use Rattle.trace_core.specs.Slots.{slot_seen};
 ghost use Rattle.trace_core.specs.declared.phase.Settle.TheVariants as settled;
 ghost use Rattle.unit_tree.specs.Compositions.{AreMembers, run_of};
 ghost use Rattle.unit_tree.specs.Negotiation.{all_inputs, limit_at};
-ghost use Rattle.step_rule.specs.Steps.{or_least};
+ghost use Rattle.step_rule.specs.Steps.{ending_or};
 ghost use Rattle.trace_core.specs.declared.phase.Phase.TheVariants.{Trial};
 ghost use Rattle.unit_tree.specs.Successor.{agreed, first_position, standings, trial_end};
 ghost use Rattle.unit_tree.specs.Trace.{row_at, HasWords, IsInBounds, IsInRows};
 
 use crate::accepting::take_step;
-use crate::course::{Course, course_of};
+use crate::course::course_of;
 use crate::opening::{seats_of, states_of};
 use crate::phase::{Phase, Row, Settle};
 use crate::ports::{begin_phase, solve_ports};
@@ -26,7 +26,7 @@ use snap_store::Snaps;
 use std::alloc::Global;
 use std::marker::Model;
 use std::sync::Arc;
-use step_rule::{Slot, read_trial};
+use step_rule::{Course, Slot, read_trial};
 use super_time::limit;
 use trace_plan::Plan;
 use trace_units::Units;
@@ -62,7 +62,6 @@ pub struct Run {
     snaps: Snaps,
     ports: Vec<i64>,
     known: Vec<bool>,
-    limits: Vec<u128>,
     phase: Phase,
     point: Point,
     number: u64,
@@ -130,21 +129,13 @@ impl Run {
         let mut snaps = Snaps::new(alloc);
         let mut seats = seats_of(alloc, &units, &mut snaps)?;
         let places = plan.order().routes().outputs.len();
-        let count = plan.instances() as usize;
+        // Called for its clauses, which state how large the numbers of a plan are.
+        let _ = plan.instances();
         let mut ports = vec![in alloc; 0; places]?;
         let mut known = vec![in alloc; false; places]?;
-        let mut limits = vec![in alloc; 0; count]?;
         let fault = solve_ports(&plan, &mut units, &mut ports, &mut known);
         commit_all(&mut snaps, &mut seats, &units);
-        let phase = begin_phase(
-            &plan,
-            &mut units,
-            &mut seats,
-            &mut limits,
-            point,
-            number,
-            fault,
-        );
+        let phase = begin_phase(&plan, &mut units, &mut seats, point, number, fault);
         Ok(Run {
             plan,
             units,
@@ -152,7 +143,6 @@ impl Run {
             snaps,
             ports,
             known,
-            limits,
             phase,
             point,
             number,
@@ -344,7 +334,7 @@ impl Run {
     pub fn agreed(&self, h: u64) -> Result<u64, Ending>
         requires trial { self.now.phase ≡ Trial h }
         requires full { AreCellsFull self.now.cells }
-        ensures { result ≡ or_least (trial_end self.now.plan.run self.now.stand.at self.now.stand.ports)
+        ensures { result ≡ ending_or (trial_end self.now.plan.run self.now.stand.at self.now.stand.ports)
             (agreed self.now.plan.run self.now.stand.at self.now.stand.ports) }
     {
         // Called for its clauses, which state how many seats there may be and how long the states of the units are.
@@ -394,7 +384,6 @@ impl Run {
                     &self.plan,
                     &mut self.units,
                     &mut self.seats,
-                    &mut self.limits,
                     point,
                     self.number,
                     fault,

@@ -1,78 +1,97 @@
 //! What is done for all instances in turn.
-ghost use Rattle.std.specs.Prelude.{◌≡◌, ◌≤◌, ◌<◌, ◌+◌, ◌^◌, length, map};
-ghost use Rattle.trace_core.specs.Seats.{AreBegun, IsBegun, AreSaved, AreAsLong, HaveOwnIds, all_told, asked, saved};
+ghost use Rattle.std.specs.Prelude.{◌≡◌, ◌≤◌, ◌<◌, ◌+◌, ◌^◌, ℕ, length, map};
+ghost use Rattle.trace_core.specs.Seats.{AreBegun, IsBegun, IsClock, AreSaved, AreAsLong, HaveOwnIds, all_told, asked, saved};
 
 use crate::seat::Seat;
 use snap_store::{Snaps, copy_words};
-use step_rule::{Slot, Step, Steps, propose};
-use super_time::{limit, local_step, local_time};
+use step_rule::{Slot, Step, Steps, is_held_by, limited, longest_step};
+use super_time::{local_step, local_time};
 use trace_plan::Plan;
 use trace_units::Units;
-use unit_tree::{Ending, Place};
+use unit_tree::Ending;
 
-/// Prepares a seat for a step of `h` from `t`.
-fn begin(seat: &mut Seat, factor: u64, t: u64, h: u64)
+/// The local time and the local step of the components with one length of a local tick, in a step.
+#[derive(Clone, Copy, Debug, PartialEq, Eq)]
+struct Clock {
+    /// How many ticks of the system one local tick is.
+    factor: u64,
+    /// The local time at the beginning of the step, in local ticks.
+    time: u64,
+    /// The length of the step, in local ticks.
+    step: u64,
+}
+
+/// Returns the clock of a component in a step of `h` from `t`.
+fn clock_of(factor: u64, t: u64, h: u64) -> Clock
     requires factor { 1 ≤ factor }
     requires end { t + h ≤ 10 ^ 15 }
-    ensures { IsBegun t h factor seat.old seat.new }
+    ensures { IsClock t h factor result }
 {
-    seat.time = local_time(factor, t);
-    seat.step = local_step(factor, t, h);
-    seat.slot = if h > 0 && seat.step == 0 {
+    Clock {
+        factor,
+        time: local_time(factor, t),
+        step: local_step(factor, t, h),
+    }
+}
+
+/// Returns the clock of a component in a step of `h` from `t`, by the clock of the component before it.
+fn next_clock(clock: Clock, factor: u64, t: u64, h: u64) -> Clock
+    requires clock { IsClock t h clock.factor clock }
+    requires factor { 1 ≤ factor }
+    requires end { t + h ≤ 10 ^ 15 }
+    ensures { IsClock t h factor result }
+{
+    if clock.factor == factor {
+        clock
+    } else {
+        clock_of(factor, t, h)
+    }
+}
+
+/// Prepares a seat for a step of `h`.
+fn begin(seat: &mut Seat, clock: Clock, h: u64)
+    ensures { (t factor : ℕ) → IsClock t h factor clock → IsBegun t h factor seat.old seat.new }
+{
+    seat.time = clock.time;
+    seat.step = clock.step;
+    seat.slot = if is_held_by(h, clock.step) {
         Slot::Held
     } else {
         Slot::Empty
     };
 }
 
-/// Prepares all seats for a step of `h` from `t`. An instance is held where none of its local ticks ends in the step.
+/// Prepares all seats for a step of `h` from `t`. An instance is held where none of its local ticks ends in the step. Where an
+/// instance has the local tick of the one before it, it has the same clock.
 pub(crate) fn begin_all(plan: &Plan, seats: &mut [Seat], t: u64, h: u64)
     requires seats { length seats.old ≡ length plan.now.run.members }
     requires end { t + h ≤ 10 ^ 15 }
     ensures { AreBegun t h plan.now.run.members seats.old seats.new }
 {
+    let mut clock = clock_of(1, t, h);
     for instance in 0..plan.instances() {
-        begin(&mut seats[instance as usize], plan.factor(instance), t, h);
+        clock = next_clock(clock, plan.factor(instance), t, h);
+        begin(&mut seats[instance as usize], clock, h);
     }
 }
 
 /// Computes the limit at `t` of each instance whose unit has a `max`, and proposes a step. The first fault of a `max` ends the
 /// run.
-pub(crate) fn ask_limits(
-    plan: &Plan,
-    units: &mut Units,
-    t: u64,
-    limits: &mut [u128],
-) -> Result<u64, Ending>
+pub(crate) fn ask_limits(plan: &Plan, units: &mut Units, t: u64) -> Result<u64, Ending>
     requires tied { units.old.plan ≡ plan.now }
-    requires limits { length limits.old ≡ length plan.now.run.members }
     requires time { t ≤ plan.now.run.stop }
     ensures asked { result ≡ asked plan.now.run t (all_told t plan.now.run.members units.old.states units.old.inputs) }
     ensures kept { units.new ≡ units.old }
-    ensures limits { length limits.new ≡ length limits.old }
 {
-    let stop = plan.stop();
     // Called for its clauses, which state how long the lists of the units are.
     let _ = units.count();
-    let mut count = 0;
+    let mut least = longest_step(plan.stop(), plan.longest(), t);
     for instance in plan.limited() {
         let factor = plan.factor(*instance);
-        let told = match units.max_step(*instance, local_time(factor, t)) {
-            Ok(told) => told,
-            Err(fault) => {
-                return Err(Ending::UnitFault {
-                    instance: *instance,
-                    place: Place::Max,
-                    fault,
-                });
-            }
-        };
-        if let Some(local) = told {
-            limits[count] = limit(factor, t, local);
-            count += 1;
-        }
+        let told = units.max_step(*instance, local_time(factor, t));
+        least = limited(least, *instance, factor, t, told)?;
     }
-    Ok(propose(stop, plan.longest(), t, &limits[..count]))
+    Ok(least)
 }
 
 /// The steps of all seats of a run in a phase.
@@ -80,6 +99,7 @@ pub(crate) fn ask_limits(
 pub(crate) struct SeatSteps<'a> {
     pub(crate) plan: &'a Plan,
     pub(crate) seats: &'a [Seat],
+    ghost as_many: { length seats.now ≡ length plan.now.run.members },
 }
 
 impl Steps for SeatSteps<'_> {
@@ -88,7 +108,7 @@ impl Steps for SeatSteps<'_> {
     ghost steps = { λ phase. seat_steps phase.plan.now.run.members phase.seats.now };
 
     fn count(&self) -> usize {
-        (self.plan.instances() as usize).min(self.seats.len())
+        self.seats.len()
     }
 
     fn step(&self, instance: usize) -> Step {

@@ -2,8 +2,9 @@ use Rattle.std.proofs.Common.{◌≡◌, ◌∙◌, ℕ, ℤ, List, ap, refl, su
 use Rattle.link_laws.specs.Boards.{Board}
 use Rattle.link_laws.specs.Making.{limits_by, ports_in, redos_by, replies_by}
 use Rattle.link_core.specs.Noted.{IsTrue, making_in, part_at}
+use Rattle.link_core.specs.Ready.{all_made}
 use Rattle.link_core.proofs.MakingAll.{fed_here, made_all, true_four, true_one, true_three, true_two, words_four, words_three, words_two}
-use Rattle.link_core.proofs.working.make_all.Goals.{After-find_stage-wanted, After-find_stage-wanted-2, After-find_stage-wanted-3}
+use Rattle.link_core.proofs.working.make_all.Goals.{After-find_stage-wanted, After-find_stage-wanted-2, After-find_stage-wanted-3, After-make_redos_wanted}
 use Rattle.link_core.proofs.working.make_all.Goals as goal
 use Rattle.port_solve.specs.Solved.{HaveInputs, HaveStates, HaveTheirWords}
 use Rattle.trace_plan.specs.Plans.{Planned}
@@ -110,6 +111,49 @@ third c so =
       three_is,
     )
 
+-- The last facts are made: all of them are those that a node makes.
+record Made (c : After-make_redos_wanted) : Type 0 where
+  all : making_in c.make_redos_wanted.new.notes ≡ all_made c.args.plan.now.run c.args.owners.now c.args.me
+      (part_at c.args.owners.now c.args.me c.args.point c.args.row c.args.units.now.states) (making_in c.args.notes.now)
+  stands : Stands c.args.plan.now.run c.args.owners.now c.args.me c.args.point c.args.row c.args.units.now.states
+      (making_in c.make_redos_wanted.new.notes).known c.make_redos_wanted.new.units
+
+fourth : (c : After-make_redos_wanted)
+    → (making_in c.make_limits_wanted.new.notes ≡ limits_by c.args.plan.now.run c.args.owners.now c.args.me
+    (part_at c.args.owners.now c.args.me c.args.point c.args.row c.args.units.now.states) c.find_stage-wanted.result (making_in c.make_words.new.notes))
+    → Stands c.args.plan.now.run c.args.owners.now c.args.me c.args.point c.args.row c.args.units.now.states (making_in c.make_replies_wanted.new.notes).known c.make_replies_wanted.new.units
+    × (making_in c.make_replies_wanted.new.notes ≡ replies_by c.args.plan.now.run c.args.owners.now c.args.me
+    (part_at c.args.owners.now c.args.me c.args.point c.args.row c.args.units.now.states) c.find_stage-wanted-2.result (making_in c.make_limits_wanted.new.notes))
+    → Made c
+fourth c two_is so =
+    let run = c.args.plan.now.run in
+    let owners = c.args.owners.now in
+    let me = c.args.me in
+    let point = c.args.point in
+    let row = c.args.row in
+    let states = c.args.units.now.states in
+    let start = making_in c.args.notes.now in
+    let one = making_in c.make_words.new.notes in
+    let two = making_in c.make_limits_wanted.new.notes in
+    let three = making_in c.make_replies_wanted.new.notes in
+    let four = making_in c.make_redos_wanted.new.notes in
+    let wanted = c.find_stage-wanted-3.result in
+    let four_is : four ≡ redos_by run owners me (part_at owners me point row states) wanted three =
+    subst (λ all. four ≡ redos_by run owners me (part_at owners me point row all) wanted three) so.0.same c.make_redos_wanted.ensures.made in
+    let truth = true_four run c.judged.ensures owners me c.requires.ready.owned point row states start one two three four c.find_stage-wanted.result
+    c.find_stage-wanted-2.result wanted c.requires.ready.truth (c.make_words.ensures.made point) c.find_stage-wanted.ensures.stage two_is
+    c.find_stage-wanted-2.ensures.stage so.1 c.find_stage-wanted-3.ensures.stage four_is in
+    let words_are = words_four run c.judged.ensures owners me c.requires.ready.owned point row states start one two three four c.find_stage-wanted.result
+    c.find_stage-wanted-2.result wanted c.requires.ready.truth (c.make_words.ensures.made point) c.find_stage-wanted.ensures.stage two_is
+    c.find_stage-wanted-2.ensures.stage so.1 c.find_stage-wanted-3.ensures.stage four_is in
+    record {
+      all = made_all run c.judged.ensures owners me c.requires.ready.owned point row states start one two three four c.find_stage-wanted.result
+          c.find_stage-wanted-2.result wanted c.requires.ready.truth (c.make_words.ensures.made point) c.find_stage-wanted.ensures.stage two_is
+          c.find_stage-wanted-2.ensures.stage so.1 c.find_stage-wanted-3.ensures.stage four_is;
+      stands = stands_on run owners me point row states three.known four.known c.make_replies_wanted.new.units c.make_redos_wanted.new.units so.0
+          truth words_are c.make_redos_wanted.ensures.kept;
+    }
+
 -- The states have the lengths that the plan requires.
 have_states : (c : After-find_stage-wanted) → HaveStates c.args.plan.now.run c.args.units.now.states
 have_states c = subst (HaveStates c.args.plan.now.run) c.make_words.ensures.states
@@ -144,53 +188,14 @@ make_redos_wanted-requires-clause-fed c =
 pub returns-clause-made : goal.returns-clause-made
 returns-clause-made c =
     let at = goal.at.returns-clause-made c in
-    let run = c.args.plan.now.run in
-    let owners = c.args.owners.now in
-    let me = c.args.me in
-    let point = c.args.point in
-    let row = c.args.row in
-    let states = c.args.units.now.states in
-    let start = making_in c.args.notes.now in
-    let one = making_in c.make_words.new.notes in
-    let two = making_in c.make_limits_wanted.new.notes in
-    let three = making_in c.make_replies_wanted.new.notes in
-    let four = making_in c.make_redos_wanted.new.notes in
-    let wanted = c.find_stage-wanted-3.result in
     let second_is = second at.After-find_stage-wanted-2 (first at.After-find_stage-wanted) in
-    let third_is = third at.After-find_stage-wanted-3 second_is in
-    let four_is : four ≡ redos_by run owners me (part_at owners me point row states) wanted three =
-    subst (λ all. four ≡ redos_by run owners me (part_at owners me point row all) wanted three) third_is.0.same c.make_redos_wanted.ensures.made in
-    made_all run c.judged.ensures owners me c.requires.ready.owned point row states start one two three four c.find_stage-wanted.result
-    c.find_stage-wanted-2.result wanted c.requires.ready.truth (c.make_words.ensures.made point) c.find_stage-wanted.ensures.stage second_is.1
-    c.find_stage-wanted-2.ensures.stage third_is.1 c.find_stage-wanted-3.ensures.stage four_is
+    (fourth at.After-make_redos_wanted second_is.1 (third at.After-find_stage-wanted-3 second_is)).all
 
 pub returns-clause-ready : goal.returns-clause-ready
 returns-clause-ready c =
     let at = goal.at.returns-clause-ready c in
-    let run = c.args.plan.now.run in
-    let owners = c.args.owners.now in
-    let me = c.args.me in
-    let point = c.args.point in
-    let row = c.args.row in
-    let states = c.args.units.now.states in
-    let start = making_in c.args.notes.now in
-    let one = making_in c.make_words.new.notes in
-    let two = making_in c.make_limits_wanted.new.notes in
-    let three = making_in c.make_replies_wanted.new.notes in
-    let four = making_in c.make_redos_wanted.new.notes in
-    let wanted = c.find_stage-wanted-3.result in
     let second_is = second at.After-find_stage-wanted-2 (first at.After-find_stage-wanted) in
-    let third_is = third at.After-find_stage-wanted-3 second_is in
-    let four_is : four ≡ redos_by run owners me (part_at owners me point row states) wanted three =
-    subst (λ all. four ≡ redos_by run owners me (part_at owners me point row all) wanted three) third_is.0.same c.make_redos_wanted.ensures.made in
-    let truth = true_four run c.judged.ensures owners me c.requires.ready.owned point row states start one two three four c.find_stage-wanted.result
-    c.find_stage-wanted-2.result wanted c.requires.ready.truth (c.make_words.ensures.made point) c.find_stage-wanted.ensures.stage second_is.1
-    c.find_stage-wanted-2.ensures.stage third_is.1 c.find_stage-wanted-3.ensures.stage four_is in
-    let words_are = words_four run c.judged.ensures owners me c.requires.ready.owned point row states start one two three four c.find_stage-wanted.result
-    c.find_stage-wanted-2.result wanted c.requires.ready.truth (c.make_words.ensures.made point) c.find_stage-wanted.ensures.stage second_is.1
-    c.find_stage-wanted-2.ensures.stage third_is.1 c.find_stage-wanted-3.ensures.stage four_is in
-    let last = stands_on run owners me point row states three.known four.known c.make_replies_wanted.new.units c.make_redos_wanted.new.units third_is.0
-    truth words_are c.make_redos_wanted.ensures.kept in
+    let last = (fourth at.After-make_redos_wanted second_is.1 (third at.After-find_stage-wanted-3 second_is)).stands in
     record {
       tied = ap (λ (f : Fleet). f.plan) (c.make_redos_wanted.ensures.kept ∙ c.make_replies_wanted.ensures.kept ∙ c.make_limits_wanted.ensures.kept)
           ∙ c.make_words.ensures.plan ∙ c.requires.ready.tied;
@@ -198,5 +203,7 @@ returns-clause-ready c =
       few = c.requires.ready.few;
       noted = c.make_redos_wanted.ensures.notes;
       words = last.words;
-      truth = subst (λ all. IsTrue run owners me point row all four.known) (sym last.same) last.truth;
+      truth =
+          subst (λ all. IsTrue c.args.plan.now.run c.args.owners.now c.args.me c.args.point c.args.row all (making_in c.make_redos_wanted.new.notes).known)
+          (sym last.same) last.truth;
     }

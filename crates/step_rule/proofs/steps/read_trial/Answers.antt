@@ -1,5 +1,5 @@
 use Rattle.std.proofs.Common.{◌≡◌, ◌∙◌, ◌+◌, false, is_some, sym, ap, subst, arith}
-use Rattle.step_rule.specs.Steps.{trial_end_by}
+use Rattle.step_rule.specs.Steps.{ends_trial}
 use Rattle.step_rule.proofs.StepLaws.{ReadSoFar, all_read, asked_at, fault_here, read_next}
 use Rattle.step_rule.proofs.steps.read_trial.Goals as goal
 
@@ -9,9 +9,9 @@ returns-in-Some g c =
     fault_here c.args.t c.args.h steps c.loop-instance.instance c.loop-instance.least c.step-step.result c.in-Some.ending c.step-step.ensures.step
     (cc (c.trial_end.ensures, c.in-Some.is)) c.loop-instance.invariant
 
-pub least_with-least-requires : goal.least_with-least-requires
-least_with-least-requires g c = record {
-  least = c.step-step.ensures.least;
+pub lesser_reply-least-requires : goal.lesser_reply-least-requires
+lesser_reply-least-requires g c = record {
+  factor = c.step-step.ensures.factor;
   coarsest = c.step-step.ensures.coarsest;
   asked = asked_at c.args.t c.args.h (g.S.Steps.steps c.args.steps.now) c.loop-instance.instance c.step-step.result c.requires.asked c.step-step.ensures.step;
   at_most = c.loop-instance.invariant.at_most;
@@ -21,8 +21,8 @@ least_with-least-requires g c = record {
 pub loop-instance-preserved : goal.loop-instance-preserved
 loop-instance-preserved g c =
     let steps = g.S.Steps.steps c.args.steps.now in
-    let none : is_some (trial_end_by (c.loop-instance.instance, c.step-step.result)) ≡ false = ap is_some (sym c.trial_end.ensures ∙ c.in_default.is) in
-    subst (ReadSoFar c.args.t c.args.h steps (c.loop-instance.instance + 1)) (sym c.least_with-least.ensures)
+    let none : is_some (ends_trial (c.loop-instance.instance, c.step-step.result)) ≡ false = ap is_some (sym c.trial_end.ensures ∙ c.in_default.is) in
+    subst (ReadSoFar c.args.t c.args.h steps (c.loop-instance.instance + 1)) (sym c.lesser_reply-least.ensures)
     (read_next c.args.t c.args.h steps c.loop-instance.instance c.loop-instance.least c.step-step.result c.step-step.ensures.step none c.loop-instance.invariant)
 
 pub returns : goal.returns

@@ -1,7 +1,7 @@
 use Rattle.std.proofs.Common.{◌≡◌, ◌∙◌, ◌≤◌, List, length, sym, ap, ap₂, subst, arith}
 use Rattle.model_rules.specs.Limits.{instance_limit}
 use Rattle.port_solve.specs.Solved.{HaveStates}
-use Rattle.step_rule.specs.Steps.{AreAsked, or_least, trial_of}
+use Rattle.step_rule.specs.Steps.{AreAsked, ending_or, trial_result}
 use Rattle.step_rule.specs.declared.steps.Step.{Step}
 use Rattle.trace_core.proofs.SeatSteps.{steps_long}
 use Rattle.trace_core.proofs.SettleLaws.{trial_is, trial_ready}
@@ -43,6 +43,6 @@ returns c =
     let at = goal.at.returns c in
     let full = subst (λ (s : RunState). AreCellsFull s.cells) (sym c.self.view_is) c.requires.full in
     c.read_trial.ensures
-    ∙ ap (trial_of r.point.t c.args.h) (sym (steps_are at.After-deref-3))
+    ∙ ap (trial_result r.point.t c.args.h) (sym (steps_are at.After-deref-3))
     ∙ trial_is r c.self.invariant (have at.After-count) c.args.h (same at.After-count) full
-    ∙ ap (λ (s : RunState). or_least (trial_end s.plan.run s.stand.at s.stand.ports) (agreed s.plan.run s.stand.at s.stand.ports)) c.self.view_is
+    ∙ ap (λ (s : RunState). ending_or (trial_end s.plan.run s.stand.at s.stand.ports) (agreed s.plan.run s.stand.at s.stand.ports)) c.self.view_is

@@ -23,7 +23,6 @@ use Rattle.trace_core.proofs.run.Run.open_from.Goals as goal
 
 pub commit_all-requires-clause-saved : goal.commit_all-requires-clause-saved
 commit_all-requires-clause-saved c =
-    let s = c.solve_ports-fault in
     let seated : AreSeated c.seats_of.new.snaps c.in_ok-seats.seats.items c.args.units = c.in_ok-seats.ensures in
     subst (λ seats. AreSaved c.seats_of.new.snaps seats (saved c.seats_of.new.snaps seats)) (sym c.deref_mut-3.ensures.value)
     (subst (AreSaved c.seats_of.new.snaps c.in_ok-seats.seats.items)
@@ -47,7 +46,6 @@ made c = record {
   snaps = c.commit_all.new.snaps;
   ports = with_items c.in_ok-ports.ports c.solve_ports-fault.new.ports;
   known = with_items c.in_ok-known.known c.solve_ports-fault.new.known;
-  limits = with_items c.in_ok-limits.limits c.begin_phase-phase.new.limits;
   phase = c.begin_phase-phase.result;
   point = c.args.point;
   number = c.args.number;
@@ -68,16 +66,11 @@ come c =
     (record { right = s.ensures.right; fault_is = s.ensures.fault; known_all = s.ensures.known; inputs = s.ensures.inputs; kept = s.ensures.states }) in
     let seats0 = with_items c.in_ok-seats.seats c.commit_all.new.seats in
     let put0 = items_put c.in_ok-seats.seats c.commit_all.new.seats (c.commit_all.ensures.as_many ∙ ap length c.deref_mut-3.ensures.value) in
-    let seats = with_items seats0 b.new.seats in
     let kept = kept_in_phase c.deref-4.result.now.run.members c.args.point.t b.result c.deref_mut-4.result.now b.new.seats b.ensures.begun in
     let as_many = as_many_kept c.deref_mut-4.result.now b.new.seats kept.ids in
     let put = items_put seats0 b.new.seats (as_many ∙ ap length c.deref_mut-4.ensures.value) in
-    let ports = with_items c.in_ok-ports.ports s.new.ports in
     let put_ports = items_put c.in_ok-ports.ports s.new.ports (s.ensures.as_many_ports ∙ ap length c.deref_mut.ensures.value) in
-    let known = with_items c.in_ok-known.known s.new.known in
     let put_known = items_put c.in_ok-known.known s.new.known (s.ensures.as_many_known ∙ ap length c.deref_mut-2.ensures.value) in
-    let limits = with_items c.in_ok-limits.limits b.new.limits in
-    let put_limits = items_put c.in_ok-limits.limits b.new.limits (b.ensures.limits ∙ ap length c.deref_mut-5.ensures.value) in
     let begun : IsBegunWith run c.args.point c.args.number s.new.units s.result b.result c.commit_all.new.seats b.new.seats =
     subst (λ old. IsBegunWith run c.args.point c.args.number s.new.units s.result b.result old b.new.seats) (c.deref_mut-4.ensures.value ∙ put0)
     (subst (λ
@@ -87,19 +80,15 @@ come c =
     let places : length c.routes.result.now.outputs ≡ length (routes_of run).outputs =
     ap (λ (routes : Routes). length routes.outputs) (c.routes.ensures.routes ∙ c.order.ensures.routes)
     ∙ ap (λ (plan : Planned). length (routes_of plan.run).outputs) c.deref.ensures in
-    let count : c.instances-count.result ≡ length run.members = c.instances-count.ensures.count
-    ∙ ap (λ (plan : Planned). length plan.run.members) c.deref-2.ensures in
     let ports_long : length c.in_ok-ports.ports.items ≡ length (routes_of run).outputs = sym c.in_ok-ports.ports.ok.0 ∙ c.in_ok-ports.ensures.len
     ∙ c.len-places.ensures ∙ places in
     let known_long : length c.in_ok-known.known.items ≡ length (routes_of run).outputs = sym c.in_ok-known.known.ok.0 ∙ c.in_ok-known.ensures.len
     ∙ c.len-places.ensures ∙ places in
-    let limits_long : length c.in_ok-limits.limits.items ≡ length run.members = sym c.in_ok-limits.limits.ok.0 ∙ c.in_ok-limits.ensures.len ∙ count in
     let room : HasRoom run n = record {
       ports = ap length put_ports ∙ s.ensures.as_many_ports ∙ ap length c.deref_mut.ensures.value ∙ ports_long;
       known = ap length put_known ∙ s.ensures.as_many_known ∙ ap length c.deref_mut-2.ensures.value ∙ known_long;
       seats = ap length put ∙ as_many ∙ ap length (c.deref_mut-4.ensures.value ∙ put0) ∙ c.commit_all.ensures.as_many ∙ ap length c.deref_mut-3.ensures.value
           ∙ seated.as_many ∙ ap (λ (plan : Planned). length plan.run.members) c.requires.tied;
-      limits = ap length put_limits ∙ b.ensures.limits ∙ ap length c.deref_mut-5.ensures.value ∙ limits_long;
     } in
     let tied : b.new.units.plan ≡ c.args.plan.value = ap (λ (f : Fleet). f.plan) b.ensures.kept ∙ s.ensures.plan ∙ c.requires.tied in
     let fed : AreAsLong (inputs_before c.commit_all.new.seats) s.new.units.inputs = ap (map length) c.commit_all.ensures.before in
@@ -130,7 +119,7 @@ opening c =
     ap (λ states. position_with c.args.point states c.args.number) same in
     let order = c.order.result.now.places in
     let ordered : IsPlaceOrder run order = subst (λ (plan : Planned). IsPlaceOrder plan.run order) c.deref.ensures c.order.ensures.places in
-    let bounded : IsBounded run = subst (λ (plan : Planned). IsBounded plan.run) c.deref-2.ensures c.instances-count.ensures.bounded in
+    let bounded : IsBounded run = subst (λ (plan : Planned). IsBounded plan.run) c.deref-2.ensures c.instances.ensures.bounded in
     let opened : position_of n.opened ≡ start c = ap (λ states. position_with c.args.point states c.args.number) c.in_ok-states.ensures in
     let before : inputs_before c.commit_all.new.seats ≡ b.new.units.inputs = c.commit_all.ensures.before ∙ sym (ap (λ (f : Fleet). f.inputs) b.ensures.kept) in record {
       runs =

@@ -11,7 +11,7 @@ use Rattle.trace_core.specs.declared.phase.Phase.TheVariants.{Ended}
 use Rattle.trace_core.specs.Runs.{RunState, Stands, AreCellsFull, is_ended}
 use Rattle.trace_core.specs.Seats.{AreAsLong, AreBegun, saved}
 use Rattle.trace_core.specs.Settling.{Settled, Ends, Moves, IsRedoDue, with_redo}
-use Rattle.trace_core.specs.declared.course.Course.TheVariants as course
+use Rattle.step_rule.specs.declared.courses.Course.TheVariants as course
 use Rattle.trace_core.proofs.KeepLaws.{AreSolved, Arrival, IsBegunWith, arrival_of, redone_is, redone_run, ended_run}
 use Rattle.trace_core.proofs.LengthLaws.{states_as_long}
 use Rattle.trace_core.proofs.MoveLaws.{end_stands, end_settled, redo_due, redo_length, redo_stands, moved_on, next_in_rows, next_in_time, next_run, next_stands, next_moves}
@@ -194,7 +194,7 @@ next c =
     moved_on c.self.inside c.begin_phase-self-inside.new.units
     (with_items (with_items c.self.inside.seats c.commit_all.new.seats) c.begin_phase-self-inside.new.seats) c.commit_all.new.snaps
     (with_items c.self.inside.ports c.solve_ports-fault.new.ports) (with_items c.self.inside.known c.solve_ports-fault.new.known)
-    (with_items c.self.inside.limits c.begin_phase-self-inside.new.limits) c.begin_phase-self-inside.result c.in-On.point c.is_none-self-inside.result
+    c.begin_phase-self-inside.result c.in-On.point c.is_none-self-inside.result
 
 come : (c : After-begin_phase-self-inside) → AreSolved c.self.inside.plan.value.run c.solve_ports-fault.new.units c.self.inside.units.states
     c.solve_ports-fault.new.ports c.solve_ports-fault.new.known c.solve_ports-fault.result
@@ -206,16 +206,11 @@ come c is_solved =
     let b = c.begin_phase-self-inside in
     let seats0 = with_items r.seats c.commit_all.new.seats in
     let put0 = items_put r.seats c.commit_all.new.seats (c.commit_all.ensures.as_many ∙ ap length c.deref_mut-in-On.ensures.value) in
-    let seats = with_items seats0 b.new.seats in
     let kept = kept_in_phase c.deref-in-On-2.result.now.run.members c.in-On.point.t b.result c.deref_mut-in-On-4.result.now b.new.seats b.ensures.begun in
     let as_many = as_many_kept c.deref_mut-in-On-4.result.now b.new.seats kept.ids in
     let put = items_put seats0 b.new.seats (as_many ∙ ap length c.deref_mut-in-On-4.ensures.value) in
-    let ports = with_items r.ports s.new.ports in
     let put_ports = items_put r.ports s.new.ports (s.ensures.as_many_ports ∙ ap length c.deref_mut-in-On-2.ensures.value) in
-    let known = with_items r.known s.new.known in
     let put_known = items_put r.known s.new.known (s.ensures.as_many_known ∙ ap length c.deref_mut-in-On-3.ensures.value) in
-    let limits = with_items r.limits b.new.limits in
-    let put_limits = items_put r.limits b.new.limits (b.ensures.limits ∙ ap length c.deref_mut-in-On-5.ensures.value) in
     let begun : IsBegunWith r.plan.value.run c.in-On.point (r.number + 1) s.new.units s.result b.result c.commit_all.new.seats b.new.seats =
     subst (λ old. IsBegunWith r.plan.value.run c.in-On.point (r.number + 1) s.new.units s.result b.result old b.new.seats)
     (c.deref_mut-in-On-4.ensures.value ∙ put0)
@@ -228,7 +223,6 @@ come c is_solved =
       known = ap length put_known ∙ s.ensures.as_many_known ∙ ap length c.deref_mut-in-On-3.ensures.value ∙ is.room.known;
       seats = ap length put ∙ as_many ∙ ap length (c.deref_mut-in-On-4.ensures.value ∙ put0) ∙ c.commit_all.ensures.as_many
           ∙ ap length c.deref_mut-in-On.ensures.value ∙ is.room.seats;
-      limits = ap length put_limits ∙ b.ensures.limits ∙ ap length c.deref_mut-in-On-5.ensures.value ∙ is.room.limits;
     } in
     let tied : b.new.units.plan ≡ r.plan.value = ap (λ (f : Fleet). f.plan) b.ensures.kept ∙ s.ensures.plan ∙ is.tied in
     let fed : AreAsLong (inputs_before c.commit_all.new.seats) s.new.units.inputs = ap (map length) c.commit_all.ensures.before ∙ s.ensures.as_long in
@@ -254,19 +248,19 @@ after c b to come =
           next_moves r b.is b.have b.going b.full c.in-On.point to c.begin_phase-self-inside.new.units
           (with_items (with_items r.seats c.commit_all.new.seats) c.begin_phase-self-inside.new.seats) c.commit_all.new.snaps
           (with_items r.ports c.solve_ports-fault.new.ports) (with_items r.known c.solve_ports-fault.new.known)
-          (with_items r.limits c.begin_phase-self-inside.new.limits) c.begin_phase-self-inside.result c.is_none-self-inside.result c.solve_ports-fault.result
+          c.begin_phase-self-inside.result c.is_none-self-inside.result c.solve_ports-fault.result
           c.commit_all.new.seats come (same_states c) c.commit_all.ensures.before;
       runs =
           next_run r b.is b.have b.going b.full c.in-On.point to c.begin_phase-self-inside.new.units
           (with_items (with_items r.seats c.commit_all.new.seats) c.begin_phase-self-inside.new.seats) c.commit_all.new.snaps
           (with_items r.ports c.solve_ports-fault.new.ports) (with_items r.known c.solve_ports-fault.new.known)
-          (with_items r.limits c.begin_phase-self-inside.new.limits) c.begin_phase-self-inside.result c.is_none-self-inside.result c.solve_ports-fault.result
+          c.begin_phase-self-inside.result c.is_none-self-inside.result c.solve_ports-fault.result
           c.commit_all.new.seats come (same_states c) c.commit_all.ensures.before;
       stands =
           next_stands r b.is b.have b.going b.full c.in-On.point to c.begin_phase-self-inside.new.units
           (with_items (with_items r.seats c.commit_all.new.seats) c.begin_phase-self-inside.new.seats) c.commit_all.new.snaps
           (with_items r.ports c.solve_ports-fault.new.ports) (with_items r.known c.solve_ports-fault.new.known)
-          (with_items r.limits c.begin_phase-self-inside.new.limits) c.begin_phase-self-inside.result c.is_none-self-inside.result c.solve_ports-fault.result
+          c.begin_phase-self-inside.result c.is_none-self-inside.result c.solve_ports-fault.result
           c.commit_all.new.seats come (same_states c) c.commit_all.ensures.before;
     }
 
