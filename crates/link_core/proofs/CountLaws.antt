@@ -9,6 +9,20 @@ use Rattle.link_core.specs.declared.notes.Notes.{Notes}
 use Rattle.unit_tree.specs.Compositions.{Composition}
 use Rattle.link_laws.specs.declared.fact.Seen.{Seen}
 
+pub fewer : {A : Type 0} (entries : List (Option A)) (place : ℕ) (told : A) → place < length entries → is_none (entry entries place) ≡ true
+    → empties (slice_set entries place (Some told)) + 1 ≡ empties entries
+fewer [] place told within none = absurd (omega (arith, within))
+fewer (None ∷ entries) zero told within none = omega arith
+fewer (Some one ∷ entries) zero told within none = absurd (cc)
+fewer (None ∷ entries) (suc place) told within none = let rest = fewer entries place told (omega (arith, within)) none in omega (arith, rest)
+fewer (Some one ∷ entries) (suc place) told within none = fewer entries place told (omega (arith, within)) none
+
+pub some_empty : {A : Type 0} (entries : List (Option A)) (place : ℕ) → place < length entries → is_none (entry entries place) ≡ true → 0 < empties entries
+some_empty [] place within none = absurd (omega (arith, within))
+some_empty (None ∷ entries) place within none = omega arith
+some_empty (Some one ∷ entries) zero within none = absurd (cc)
+some_empty (Some one ∷ entries) (suc place) within none = some_empty entries place (omega (arith, within)) none
+
 pub at_most : {A : Type 0} (entries : List (Option A)) → empties entries ≤ length entries
 at_most [] = omega arith
 at_most (None ∷ entries) = let rest = at_most entries in omega (arith, rest)
@@ -38,3 +52,12 @@ cleared run old new words limits replies redos defined are = record {
     false_twice : (words : List (Option Seen)) → map (λ one. false) (map is_defined words) ≡ map (λ one. false) words
     false_twice [] = refl
     false_twice (one ∷ words) = ap (λ rest. false ∷ rest) (false_twice words)
+
+-- One more item is known.
+pub fewer_told : {A : Type 0} (entries : List (Option A)) (place : ℕ) (told : A) → place < length entries → is_some (entry entries place) ≡ false
+    → empties (slice_set entries place (Some told)) + 1 ≡ empties entries
+fewer_told entries place told within none = fewer entries place told within (none_there (entry entries place) none)
+  where
+    none_there : {A : Type 0} (found : Option A) → is_some found ≡ false → is_none found ≡ true
+    none_there None is = refl
+    none_there (Some one) is = absurd (cc)

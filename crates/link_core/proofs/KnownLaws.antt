@@ -18,7 +18,6 @@ use Rattle.list_laws.proofs.Members.{at_place}
 use Rattle.list_laws.proofs.Pairs.{zip_there}
 use Rattle.step_rule.proofs.AlongLaws.{mapped_at}
 use Rattle.step_rule.proofs.MemberLaws.{redo_by_results, trial_by_results}
-use Rattle.step_rule.specs.AfterStep.{after_step}
 use Rattle.step_rule.specs.Courses.{course_after, course_by, course_of_redo, course_of_trial, course_on, end_or}
 use Rattle.step_rule.specs.Steps.{AreAsked, ending_or, is_full, is_made, member_steps, result_slot}
 use Rattle.step_rule.specs.declared.courses.Course.{Course}
@@ -203,9 +202,9 @@ module _ (run : Composition) (at : Position) (replies : List (Option Said)) (h :
 -- ---- The length of a redo
 
 -- A redo is shorter than its trial.
-pub redo_less : (zero : ℕ) (point : Point) (h least : ℕ) (read : Result ℕ Ending) → course.Redo least ≡ course_by zero point h read → least ≤ h
-redo_less zero point h least (Err ending) is = absurd (cc)
-redo_less zero point h least (Ok length) is = by (nat_lt length h) refl is
+pub redo_less : (budget : ℕ) (point : Point) (h least : ℕ) (read : Result ℕ Ending) → course.Redo least ≡ course_by budget point h read → least ≤ h
+redo_less budget point h least (Err ending) is = absurd (cc)
+redo_less budget point h least (Ok length) is = by (nat_lt length h) refl is
   where
     by_spent : (spent : Bool) → course.Redo least ≡ course_after (if spent then ZeroBudget else Next (point_after point h)) → ⊥
     by_spent true is = cc
@@ -214,14 +213,14 @@ redo_less zero point h least (Ok length) is = by (nat_lt length h) refl is
     less : (length : ℕ) → nat_lt length h ≡ true → length ≤ h
     less length is = grind (arith, nat_tests)
 
-    by : (shorter : Bool) → nat_lt length h ≡ shorter → course.Redo least ≡ (if shorter then course.Redo length else course_on zero point h) → least ≤ h
+    by : (shorter : Bool) → nat_lt length h ≡ shorter → course.Redo least ≡ (if shorter then course.Redo length else course_on budget point h) → least ≤ h
     by true shorter is = let same : least ≡ length = cc in subst (λ n. n ≤ h) (sym same) (less length shorter)
-    by false shorter is = absurd (by_spent ((h == 0) && (point.n == zero)) is)
+    by false shorter is = absurd (by_spent ((h == 0) && (point.n == budget)) is)
 
 -- A redo that is known doesn't lead to another one.
-pub no_redo : (zero : ℕ) (point : Point) (h least : ℕ) (end : Option Ending) → course.Redo least ≡ end_or end (course_on zero point h) → ⊥
-no_redo zero point h least (Some ending) is = cc
-no_redo zero point h least None is = by ((h == 0) && (point.n == zero)) is
+pub no_redo : (budget : ℕ) (point : Point) (h least : ℕ) (end : Option Ending) → course.Redo least ≡ end_or end (course_on budget point h) → ⊥
+no_redo budget point h least (Some ending) is = cc
+no_redo budget point h least None is = by ((h == 0) && (point.n == budget)) is
   where
     by : (spent : Bool) → course.Redo least ≡ course_after (if spent then ZeroBudget else Next (point_after point h)) → ⊥
     by true is = cc

@@ -1,5 +1,5 @@
 -- The proposed step by known limits, and the stage by the limits.
-use Rattle.std.proofs.Common.{◌≡◌, ◌∙◌, ℕ, ◌+◌, ◌-◌, ◌≤◌, ◌<◌, min, Bool, true, List, length, map, zip, get_or, Option, None, Some, Result, Ok, Err, is_some}
+use Rattle.std.proofs.Common.{◌≡◌, ◌∙◌, ℕ, ◌+◌, ◌-◌, ◌≤◌, ◌<◌, min, Bool, true, List, length, map, zip, get_or, Option, Some, Result, Ok, Err, is_some}
 use Rattle.std.proofs.Common.{refl, sym, ap, ap₂, subst, arith}
 use Rattle.std.proofs.lemmas.List.{length-map}
 use Rattle.std.proofs.lemmas.Option.{slice_get-get_or}
@@ -39,7 +39,7 @@ none_limited run limits t first is = record {
 module _ (run : Composition) (limits : List (Option Asked)) (t instance least factor : ℕ) (d : Option Asked) (long : length limits ≡ length run.members)
     (within : instance < length run.members) (factor_is : ForMember run instance (λ member. factor ≡ member.factor))
     (so : LimitedSoFar run limits t instance least) where
-  told : Result (Option ℕ) Fault
+  abbrev pub told : Result (Option ℕ) Fault
   told = max_by (get_or limits instance d)
 
   told_there : slice_get (map max_by limits) instance ≡ Some told

@@ -1,10 +1,8 @@
 -- The items of loops over outputs and instances.
 use Rattle.std.proofs.Common.{◌≡◌, ◌∙◌, ℕ, ◌<◌, List, [], length, map, get_or, Option, Some, sym, ap, ap₂, arith}
 use Rattle.std.proofs.lemmas.List.{length-map}
-use Rattle.std.proofs.lemmas.List.FromFn.{length-enumerate_from}
 use Rattle.std.proofs.lemmas.Option.{slice_get-get_or}
 use Rattle.std.specs.Prelude.{zip, slice_get}
-use Rattle.std.specs.List.{enumerate_from}
 use Rattle.link_laws.specs.Making.{name_of, names_of, no_states}
 use Rattle.link_laws.specs.Stages.{limit_in, max_by, word_end}
 use Rattle.link_laws.specs.declared.fact.Asked.{Asked}
@@ -14,13 +12,12 @@ use Rattle.list_laws.proofs.Members.{at_place}
 use Rattle.list_laws.proofs.Pairs.{zip_there}
 use Rattle.port_solve.proofs.OutputPlaces.{outlet_of}
 use Rattle.run_laws.proofs.AssignmentLaws.{outlets_count}
-use Rattle.step_rule.proofs.AlongLaws.{first_at, mapped_at}
+use Rattle.step_rule.proofs.AlongLaws.{mapped_at}
 use Rattle.trace_plan.specs.Plans.{ForMember}
 use Rattle.unit_tree.specs.Compositions.{Composition, Member}
 use Rattle.unit_tree.specs.Negotiation.{limit_told}
 use Rattle.unit_tree.specs.Ports.{outlets}
 use Rattle.unit_tree.specs.Routes.{routes_of}
-use Rattle.unit_tree.specs.Successor.{max_end_of}
 use Rattle.unit_tree.specs.declared.ending.Ending.{Ending}
 use Rattle.unit_tree.specs.declared.order.Route.{Route}
 use Rattle.unit_tree.proofs.RouteLaws.{count_is}

@@ -1,11 +1,11 @@
 -- The facts that the node's own instances make, and their steps.
-use Rattle.std.proofs.Common.{◌≡◌, ◌∙◌, ℕ, zero, suc, ◌+◌, ◌<◌, ◌==◌, Bool, true, false, ◌&&◌, is_none, ℤ, List, [], ◌∷◌, ◌++◌, length, map, get_or, Option}
+use Rattle.std.proofs.Common.{◌≡◌, ◌∙◌, ℕ, zero, suc, ◌+◌, ◌<◌, ◌==◌, Bool, true, false, ◌&&◌, is_none, ℤ, List, [], ◌∷◌, ◌++◌, length, map, get_or}
 use Rattle.std.proofs.Common.{Some, refl, sym, ap, ap₂, arith}
 use Rattle.std.proofs.lemmas.Option.{same_Some, slice_get-get_or}
 use Rattle.std.specs.Prelude.{if◌then◌else◌, zip, slice_get, slice_set}
 use Rattle.std.specs.Option.{option_map}
 use Rattle.link_laws.specs.Boards.{asked_of, entry, said_of}
-use Rattle.link_laws.specs.Making.{limits_by, own_state, own_states, put_said, redos_by, replies_by, said_entry, with_limit, with_said}
+use Rattle.link_laws.specs.Making.{limits_by, own_state, own_states, put_said, said_entry, with_limit, with_said}
 use Rattle.link_laws.specs.declared.stage.Stage.{Stage}
 use Rattle.link_laws.specs.declared.stage.Stage.TheVariants.{Words, Limits, Trial, Redo, Over, On}
 use Rattle.link_laws.specs.Nodes.{Making}
@@ -15,9 +15,6 @@ use Rattle.link_laws.specs.declared.fact.Fact.TheVariants.{Limit}
 use Rattle.link_core.proofs.PassBodies.{Going, goes_on}
 use Rattle.link_core.proofs.StageItems.{as_many_zipped}
 use Rattle.step_rule.proofs.AlongLaws.{mapped_at}
-use Rattle.link_laws.specs.declared.fact.Asked.{Asked}
-use Rattle.link_laws.specs.declared.fact.Fact.{Fact}
-use Rattle.link_laws.specs.declared.fact.Said.{Said}
 use Rattle.super_time.specs.declared.point.Point.{Point}
 use Rattle.list_laws.proofs.Members.{at_place}
 use Rattle.list_laws.proofs.Pairs.{zip_there}

@@ -1,5 +1,5 @@
 -- Notes as the code has them: the board, the facts, and memory for as many more as there are unknown items. No promise depends on them.
-use Rattle.std.specs.Prelude.{◌≡◌, ℕ, suc, ◌+◌, ◌≤◌, ◌<◌, ◌==◌, min, Bool, true, false, ◌&&◌, is_none, ℤ, List, [], ◌∷◌, map, zip, length}
+use Rattle.std.specs.Prelude.{◌≡◌, ℕ, suc, ◌+◌, ◌≤◌, ◌<◌, ◌==◌, Bool, true, false, ◌&&◌, is_none, ℤ, List, [], ◌∷◌, map, zip, length}
 use Rattle.std.specs.Prelude.{slice_set, vec_capacity, if◌then◌else◌, Option, Some, None, Result, Ok, Err, ⊤}
 use Rattle.std.specs.Option.{option_map}
 use Rattle.fixed_words.specs.declared.types.Fault.{Fault}

@@ -1,4 +1,5 @@
-use Rattle.std.proofs.Common.{◌<◌, length, arith}
+use Rattle.std.proofs.Common.{◌<◌, ◌∙◌, length, ap, arith}
+use Rattle.step_rule.specs.Limits.{is_held_by}
 use Rattle.link_core.proofs.KnownLaws.{known_long, known_there}
 use Rattle.link_core.proofs.replies.RepliesSteps.step.Goals as goal
 use Rattle.link_core.proofs.replies.RepliesSteps.step.Goals.{After-instances}
@@ -24,6 +25,6 @@ bounds-self-instance c = omega (arith, inside (goal.at.bounds-self-instance c).A
 pub returns-clause-step : goal.returns-clause-step
 returns-clause-step c =
     let replies = c.args.self.now in
-    known_there replies.plan.now.run replies.t replies.h c.args.instance c.factor-factor.result c.local_step.result c.is_held.result c.slot.result
-    replies.said.now _ (inside (goal.at.returns-clause-step c).After-instances) c.factor-factor.ensures.factor replies.long c.local_step.ensures
-    c.is_held.ensures c.slot.ensures
+    known_there replies.plan.now.run replies.t replies.h c.args.instance c.factor-factor.result c.local_step-asked.result c.is_held_by.result c.slot.result
+    replies.said.now _ (inside (goal.at.returns-clause-step c).After-instances) c.factor-factor.ensures.factor replies.long c.local_step-asked.ensures
+    (c.is_held_by.ensures ∙ ap (is_held_by replies.h) c.local_step-asked.ensures) c.slot.ensures
