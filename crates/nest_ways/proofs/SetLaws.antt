@@ -1,6 +1,6 @@
 -- Sets of numbers by words, and inputs by their numbers.
 use Rattle.std.proofs.Common.{◌≡◌, ◌<◌, ◌⊎◌, ◌^◌, ℕ, zero, suc, ◌+◌, ◌-◌, ◌*◌, ◌≤◌, length, List, [], ◌∷◌, ◌++◌, Option, Some, set}
-use Rattle.std.proofs.Common.{refl, sym, ap, ◌∙◌, drop, subst, arith, inl, inr}
+use Rattle.std.proofs.Common.{refl, sym, ap, ◌∙◌, append-nil, drop, subst, arith, inl, inr}
 use Rattle.std.specs.Prelude.{bit_or, max, slice_get}
 use Rattle.std.specs.Int.{bit_at}
 use Rattle.std.proofs.lemmas.Bool.{cases_eq, cases_lt}
@@ -270,16 +270,23 @@ sets_more numbered more all sets are input set found =
       has_only = only_more numbered more set own.kept own.has_only;
     }
 
+-- What is read where an element was set is that element.
+set_is : {A : Type 0} (xs : List A) (k : ℕ) (x y : A) → slice_get (set xs k x) k ≡ Some y → x ≡ y
+set_is [] k x y is = absurd (cc)
+set_is (first ∷ xs) zero x y is = same_Some x y is
+set_is (first ∷ xs) (suc k) x y is = set_is xs k x y is
+
 -- The set of one more input.
-pub sets_with : (numbered : List End) (all : List Known) (old new : List (Option NumberSet)) (input : ℕ) (made : Option NumberSet)
-    → AreKeptSets numbered all old → ((one : NumberSet) → made ≡ Some one → IsKeptSet numbered all input one)
-    → ((other : ℕ) (one : NumberSet) → slice_get new other ≡ Some (Some one) → ((other ≡ input) × (made ≡ Some one)) ⊎ (slice_get old other ≡ Some (Some one)))
-    → AreKeptSets numbered all new
-sets_with numbered all old new input made are own from other one found = by (from other one found)
+pub sets_with : (numbered : List End) (all : List Known) (sets : List (Option NumberSet)) (input : ℕ) (made : Option NumberSet)
+    → AreKeptSets numbered all sets → ((one : NumberSet) → made ≡ Some one → IsKeptSet numbered all input one)
+    → AreKeptSets numbered all (set sets input made)
+sets_with numbered all sets input made are own other one found = by (cases_eq other input)
   where
-    by : ((other ≡ input) × (made ≡ Some one)) ⊎ (slice_get old other ≡ Some (Some one)) → IsKeptSet numbered all other one
-    by (inl here) = subst (λ place. IsKeptSet numbered all place one) (sym here.0) (own one here.1)
-    by (inr there) = are other one there
+    by : (other ≡ input) ⊎ (other ≡ input → ⊥) → IsKeptSet numbered all other one
+    by (inl here) =
+        let there = subst (λ k. slice_get (set sets input made) k ≡ Some (Some one)) here found in
+        subst (λ place. IsKeptSet numbered all place one) (sym here) (own one (set_is sets input made (Some one) there))
+    by (inr apart) = are other one (sym (set_elsewhere sets input other made apart) ∙ found)
 
 -- ---- Words that are joined
 
@@ -382,6 +389,11 @@ pub put_there : (sets : List NumberSet) (scope : ℕ) (made own : NumberSet) →
 put_there sets scope made own there number has = (made, set_there sets scope made (slice_get_within sets scope own there), has)
 
 -- ---- Numbers of what is kept
+
+-- At most one more input got a number.
+pub numbered_on : (old new : List End) (end : End) → (new ≡ old) ⊎ (new ≡ old ++ end ∷ []) → (rest : List End) × (new ≡ old ++ rest)
+numbered_on old new end (inl same) = ([], same ∙ sym (append-nil old))
+numbered_on old new end (inr more) = (end ∷ [], more)
 
 -- One more of those that are kept has a number.
 pub numbered_next : (kept numbered more : List End) (old new : NumberSet) (index number : ℕ) (end : End) → slice_get kept index ≡ Some end

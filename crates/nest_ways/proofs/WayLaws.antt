@@ -22,8 +22,8 @@ use Rattle.nest_names.specs.declared.scope.Spot.{Spot}
 use Rattle.nest_ways.specs.declared.ends.End.{End}
 use Rattle.nest_ways.specs.declared.steps.Inside.{Inside}
 use Rattle.nest_ways.specs.declared.steps.Known.{Known}
-use Rattle.nest_ways.specs.declared.steps.Step.{Step}
-use Rattle.nest_ways.specs.declared.steps.Step.TheVariants as step_is
+use Rattle.nest_ways.specs.declared.steps.WayStep.{WayStep}
+use Rattle.nest_ways.specs.declared.steps.WayStep.TheVariants as step_is
 use Rattle.nest_names.proofs.FlatLaws.{expand_group}
 use Rattle.nest_ways.proofs.AlikeLaws.{reads_alike}
 use Rattle.nest_ways.proofs.KeptLaws.{ends_component, in_behind, in_front, reach_one, same_both, same_covered}
@@ -281,7 +281,7 @@ puts_inside nest scopes all firsts group height step bind kept old new alike lea
 
 -- ---- More known inputs
 
-step_more : (nest : Nest) (scopes : List GroupScope) (all behind : List Known) (group low high : ℕ) → low ≤ high → (step : Step) (bind : Bind)
+step_more : (nest : Nest) (scopes : List GroupScope) (all behind : List Known) (group low high : ℕ) → low ≤ high → (step : WayStep) (bind : Bind)
     → IsStep nest scopes all group low step bind → IsStep nest scopes (all ++ behind) group high step bind
 step_more nest scopes all behind group low high less (step_is.Component line) bind leads = leads
 step_more nest scopes all behind group low high less (step_is.Inside step) bind leads =
@@ -291,7 +291,7 @@ step_more nest scopes all behind group low high less (step_is.Inside step) bind 
       leads = λ base scope depth at of_group within. leads.leads base scope depth at of_group (omega (arith, less, within));
     }
 
-pub steps_more : (nest : Nest) (scopes : List GroupScope) (all behind : List Known) (group low high : ℕ) (steps : List Step) (binds : List Bind)
+pub steps_more : (nest : Nest) (scopes : List GroupScope) (all behind : List Known) (group low high : ℕ) (steps : List WayStep) (binds : List Bind)
     → low ≤ high → AreSteps nest scopes all group low steps binds → AreSteps nest scopes (all ++ behind) group high steps binds
 steps_more nest scopes all behind group low high [] [] less are = tt
 steps_more nest scopes all behind group low high [] (bind ∷ binds) less are = absurd are
@@ -300,7 +300,7 @@ steps_more nest scopes all behind group low high (step ∷ steps) (bind ∷ bind
     (step_more nest scopes all behind group low high less step bind are.0, steps_more nest scopes all behind group low high steps binds less are.1)
 
 -- One step more.
-pub steps_next : (nest : Nest) (scopes : List GroupScope) (all : List Known) (group low one high : ℕ) (steps steps' : List Step) (step : Step)
+pub steps_next : (nest : Nest) (scopes : List GroupScope) (all : List Known) (group low one high : ℕ) (steps steps' : List WayStep) (step : WayStep)
     (binds binds' : List Bind) (bind : Bind) → AreSteps nest scopes all group low steps binds → IsStep nest scopes all group one step bind
     → low ≤ high → one ≤ high → steps' ≡ steps ++ step ∷ [] → binds' ≡ binds ++ bind ∷ [] → AreSteps nest scopes all group high steps' binds'
 steps_next nest scopes all group low one high steps steps' step binds binds' bind are is less more made led =
@@ -345,7 +345,7 @@ pub lines_split : (binds : List Bind) (place : ℕ) → binds ≡ (take place bi
 lines_split binds place = sym (take-append-drop (place + 1) binds) ∙ ap (λ front. front ++ drop (place + 1) binds) (line_next binds place)
 
 -- There is one line for each step.
-pub lines_end : (nest : Nest) (scopes : List GroupScope) (all : List Known) (group height : ℕ) (steps : List Step) (binds : List Bind) (place : ℕ)
+pub lines_end : (nest : Nest) (scopes : List GroupScope) (all : List Known) (group height : ℕ) (steps : List WayStep) (binds : List Bind) (place : ℕ)
     → AreSteps nest scopes all group height steps binds → length steps ≤ place → take place binds ≡ binds
 lines_end nest scopes all group height [] [] zero are long = refl
 lines_end nest scopes all group height [] [] (suc place) are long = refl

@@ -14,8 +14,8 @@ use Rattle.nest_ways.specs.declared.ends.End.{End}
 use Rattle.nest_ways.specs.declared.scopes.Inner.{Inner}
 use Rattle.nest_ways.specs.declared.steps.Inside.{Inside}
 use Rattle.nest_ways.specs.declared.steps.Known.{Known}
-use Rattle.nest_ways.specs.declared.steps.Step.{Step}
-use Rattle.nest_ways.specs.declared.steps.Step.TheVariants as step_is
+use Rattle.nest_ways.specs.declared.steps.WayStep.{WayStep}
+use Rattle.nest_ways.specs.declared.steps.WayStep.TheVariants as step_is
 
 -- ---- Lists of ports with each port once
 
@@ -23,8 +23,8 @@ use Rattle.nest_ways.specs.declared.steps.Step.TheVariants as step_is
 abbrev pub SameKept : List Spot → List Spot → Type 0
 SameKept one other = (kept : List Spot) → distinct kept one ≡ distinct kept other
 
--- Whether a list that was made so far is complete. True: it has the same ports as all. False: together with some rest
--- it has.
+-- Whether a list that was made so far is complete. True: it has the same ports as all. False: it has them only
+-- together with some rest, which may be empty.
 abbrev pub PutsUpTo : Bool → List Spot → List Spot → Type 0
 PutsUpTo true put all = SameKept put all
 PutsUpTo false put all = (rest : List Spot) × SameKept (put ++ rest) all
@@ -134,17 +134,17 @@ pub record LeadsInside (nest : Nest) (scopes : List GroupScope) (all : List Know
       → LeadsAlike nest scopes base step.offset depth scope bind inner
 
 -- The step itself; or, where the input at its end has only one step and this leads into a group, the two steps joined.
-abbrev pub IsPast : List Step → Inside → Inside → Type 0
+abbrev pub IsPast : List WayStep → Inside → Inside → Type 0
 IsPast steps step past =
     (past ≡ step)
     ⊎ ((onward : Inside) × (steps ≡ step_is.Inside onward ∷ []) × (past ≡ record { offset = step.offset + onward.offset; input = onward.input }))
 
 -- The step leads to what the line of the group reaches.
-abbrev pub IsStep : Nest → List GroupScope → List Known → ℕ → ℕ → Step → Bind → Type 0
+abbrev pub IsStep : Nest → List GroupScope → List Known → ℕ → ℕ → WayStep → Bind → Type 0
 IsStep nest scopes all group height (step_is.Component line) bind = LeadsHere nest group line bind
 IsStep nest scopes all group height (step_is.Inside step) bind = LeadsInside nest scopes all group height step bind
 
-abbrev pub AreSteps : Nest → List GroupScope → List Known → ℕ → ℕ → List Step → List Bind → Type 0
+abbrev pub AreSteps : Nest → List GroupScope → List Known → ℕ → ℕ → List WayStep → List Bind → Type 0
 AreSteps nest scopes all group height steps binds = AllZip (IsStep nest scopes all group height) steps binds
 
 -- ---- What is known

@@ -9,6 +9,10 @@ use Rattle.nest_ways.specs.declared.steps.Known.{Known}
 
 -- ---- Sets
 
+-- The most inputs of components that get numbers for one group.
+abbrev pub most_numbers : ℕ
+most_numbers = 8 * 2048
+
 -- The word has the number, which is below 64.
 abbrev pub IsInWord : SetWord → ℕ → Type 0
 IsInWord word number = (number < 64) × (bit_at word.bits number ≡ 1)
@@ -46,22 +50,23 @@ abbrev pub HasRoomFor : NumberSet → ℕ → Type 0
 HasRoomFor set number = set.start * 64 ≤ number
 
 -- The set has no words yet, or its words begin no later than those of the other set.
-abbrev pub HasRoomForAll : NumberSet → NumberSet → Type 0
-HasRoomForAll set other = (set.words.items ≡ []) ⊎ (set.start ≤ other.start)
+abbrev pub HasRoomForWords : NumberSet → NumberSet → Type 0
+HasRoomForWords set other = (set.words.items ≡ []) ⊎ (set.start ≤ other.start)
 
--- There is a set at the place, with room for the numbers of the other set.
+-- The set has room for all numbers of the group that the other set's numbers are of. None of them is more than
+-- `most_numbers` below those of the other set's first word.
+abbrev pub HasRoomForGroup : NumberSet → NumberSet → Type 0
+HasRoomForGroup set other = (number : ℕ) → other.start * 64 ≤ number + most_numbers → HasRoomFor set number
+
+-- There is a set at the place, with room for the words of the other set.
 abbrev pub HasRoomAt : List NumberSet → ℕ → NumberSet → Type 0
-HasRoomAt sets place other = (set : NumberSet) × (slice_get sets place ≡ Some set) × HasRoomForAll set other
+HasRoomAt sets place other = (set : NumberSet) × (slice_get sets place ≡ Some set) × HasRoomForWords set other
 
 -- The set at the place has the number.
 abbrev pub HasNumberAt : List NumberSet → ℕ → ℕ → Type 0
 HasNumberAt sets place number = (set : NumberSet) × (slice_get sets place ≡ Some set) × HasNumber set number
 
 -- ---- Inputs by numbers
-
--- The most inputs of components that get numbers for one group.
-abbrev pub most_numbers : ℕ
-most_numbers = 8 * 2048
 
 -- The input is in the list.
 abbrev pub IsAmong : End → List End → Type 0

@@ -62,8 +62,8 @@ pub(crate) fn put_within(
     Ok(true)
 }
 
-/// The offset of the first scope that is equal to the one at this offset, by the table of the group from whose scope
-/// both are counted.
+/// The offset of the first scope that is equal to the one at this offset, by the table of a group. Both are counted from
+/// a scope of that group.
 #[inline(always)]
 pub(crate) fn first_same(firsts: &[u32], offset: u32) -> u32
     ensures { result ≡ unwrap_or (slice_get firsts.now offset) offset }

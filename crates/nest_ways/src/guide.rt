@@ -182,8 +182,8 @@ impl<'n> Guide<'n> {
         Ok(())
     }
 
-    /// Of a scope inside a group's first scope, the last scope before it that is equal and also inside; both by their
-    /// offsets.
+    /// The offset of the last scope that is equal to the one at an offset, is before it, and is also inside the group's
+    /// first scope. Offsets are counted from that first scope.
     fn twin_before(&self, group: usize, offset: usize) -> Option<usize> {
         let first = self.groups.get(group)?.first?;
         let place = first.checked_add(offset)?;
@@ -191,7 +191,8 @@ impl<'n> Guide<'n> {
         twin.checked_sub(first)
     }
 
-    /// Of a scope inside a group's first scope, the first scope that is equal and also inside; both by their offsets.
+    /// The offset of the first scope that is equal to the one at an offset and is also inside the group's first scope.
+    /// Offsets are counted from that first scope.
     pub(crate) fn first_twin(&self, group: usize, offset: usize) -> usize {
         let mut first = offset;
         for _ in 0..MOST_TWINS {

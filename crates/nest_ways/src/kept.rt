@@ -8,7 +8,7 @@ ghost use Rattle.nest_ways.specs.Reaching.{AreKnown, AreSteps, IsStep, Puts};
 use crate::ends::{End, put_onward, put_within};
 use crate::guide::Guide;
 use crate::scopes::AllScopes;
-use crate::steps::{Known, Step, only_inside};
+use crate::steps::{Known, WayStep, only_inside};
 use fixed_words::{List, NoMemory};
 use nest_names::at;
 use std::alloc::Global;
@@ -25,15 +25,15 @@ fn put_step(
     known: &[Known<'_>],
     guide: &mut Guide<'_>,
     group: usize,
-    step: Step,
+    step: WayStep,
     ends: &mut List<End>,
 ) -> Result<bool, NoMemory>
     ensures { IfOk result (λ whole. (nest : Nest) (height : ℕ) (bind : Bind) → AreKnown nest scopes.now known.now
         → IsStep nest scopes.now known.now group height step bind → IsTrue whole → Puts nest scopes.now group height ends.old ends.new (bind ∷ [])) }
 {
     match step {
-        Step::Component(line) => put_within(guide, MOST_KEPT, End { scope: 0, line }, ends),
-        Step::Inside(inside) => {
+        WayStep::Component(line) => put_within(guide, MOST_KEPT, End { scope: 0, line }, ends),
+        WayStep::Inside(inside) => {
             let Some(inner) = at(known, inside.input as usize) else {
                 return Ok(false);
             };
@@ -61,7 +61,7 @@ pub(crate) fn kept_ends(
     known: &[Known<'_>],
     guide: &mut Guide<'_>,
     group: usize,
-    steps: &[Step],
+    steps: &[WayStep],
 ) -> Result<Option<List<End>>, NoMemory>
     ensures { IfOk result (λ made. (ends : List _) → made ≡ Some ends → (nest : Nest) (height : ℕ) (binds : List Bind)
         → AreKnown nest scopes.now known.now → AreSteps nest scopes.now known.now group height steps.now binds

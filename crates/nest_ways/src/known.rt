@@ -16,8 +16,8 @@ use std::alloc::Global;
 use unit_tree::Wire;
 
 /// The most connections whose targets are computed beforehand, in the order in which they are used. Where all ports of
-/// groups exist, the flat system has at least one connection for each of them. So no more are used: at the last of
-/// these the system is too large.
+/// groups exist, each of these connections makes at least one of the flat system. So the last of them is one too many,
+/// and no more are used.
 const MOST_TARGETS: usize = MOST_CONNECTIONS + 1;
 
 /// Computes an input of a group, where the inputs that it leads to were computed before.

@@ -2,7 +2,7 @@
 //!
 //! The layer above makes the [`Ways`] of a nest once. For each connection it calls [`reached`], which returns the
 //! inputs of components that the connection reaches, up to the number of connections that are still allowed. However
-//! many paths lead to an input between, a walk goes on from it once in each scope.
+//! many paths lead to an input on the way, a walk goes on from it once in each scope.
 //!
 //! - Each input of a group that a connection leads to is computed once. Its steps are kept by numbers (`steps.rt`).
 //!   They are the same in each scope of the group: a scope is given by how many places later it is in the list of all

@@ -1,28 +1,29 @@
 //! The kept inputs of components by numbers, so that a few words show whether all that is kept for an input was added.
 //!
-//! Each input of a component that is kept for an input of a group which walks visit has a number, the same for all of
-//! these. The numbers of one group follow each other. The proof needs only that each number has one input, counted from
-//! a scope of the group. An input without a set, or with a set that is never found to be complete, is added again from
-//! each scope. This takes long and changes nothing.
-ghost use Rattle.std.specs.Prelude.{◌≡◌, ◌↔◌, ◌⊎◌, ◌++◌, ◌+◌, ◌<◌, ◌≤◌, ℕ, List, None, Some, IfOk, IsTrue, OnOk, length, slice_get};
+//! Walks visit some inputs of groups. What is kept for those of one group gets numbers: one for each input of a
+//! component, whichever inputs of the group it is kept for. The numbers of one group follow each other. The proof needs
+//! only that each number has one input, counted from a scope of the group. An input of a group without a set is added
+//! again from each scope, and so is one whose set is never found to be complete. This takes long and changes nothing.
+ghost use Rattle.std.specs.Prelude.{◌≡◌, ◌↔◌, ◌⊎◌, ◌∷◌, ◌++◌, ◌+◌, ◌<◌, ◌≤◌, [], ℕ, List, None, Some, IfOk, IsTrue, OnOk, length, set, slice_get};
 ghost use Rattle.std.specs.Option.{option_map};
-ghost use Rattle.nest_ways.specs.Sets.{AreKeptSets, KeepsByNumbers, HasAll, HasNumber, HasOnly, HasNumberAt, HasRoomAt, most_numbers};
+ghost use Rattle.nest_ways.specs.Sets.{AreKeptSets, KeepsByNumbers, HasAll, HasNumber, HasOnly, HasNumberAt, HasRoomAt, IsTrimmed, most_numbers};
 ghost use Rattle.nest_ways.specs.declared.ends.End.{End as Ends};
 ghost use Rattle.nest_ways.specs.declared.sets.NumberSet.{NumberSet as NumberSets};
 
 use crate::ends::{End, is_at};
 use crate::guide::Guide;
 use crate::sets::NumberSet;
-use crate::steps::{Known, Step, only_inside};
+use crate::steps::{Known, WayStep, only_inside};
 use fixed_words::{List, NoMemory};
 use model_rules::MOST_CONNECTIONS;
 use nest_names::at;
 use std::alloc::Global;
 
 /// The most inputs of components that get numbers for one group. Connections lead to at most 2,048 inputs, unless there
-/// are too many. An input may have eight numbers, where names of instances join to the same name: each for another
-/// scope of the group from which it is reached, and for another component in each of these, of which there are at most
-/// 64. Beyond that, what is kept has no set, and is added again from each scope.
+/// are too many. An input may have several numbers, where names of instances join to the same name. For each of its
+/// numbers another scope of the group reaches it, with another component in each of these scopes. There are at most 64
+/// components, so it has at most eight numbers. Where no number is left, what is kept has no set, and is added again
+/// from each scope.
 pub(crate) const MOST_NUMBERS: usize = 8 * MOST_CONNECTIONS;
 
 /// What is kept for inputs of groups, by numbers.
@@ -36,7 +37,7 @@ pub struct KeptSets {
 }
 
 /// The number of an input of a component. Where it has none yet, it gets the next one, if there are any left. The
-/// numbers of the group begin with `first`.
+/// numbers of the group begin with `first`. A number that the guide doesn't find is lost, which takes only time.
 fn number_end(
     guide: &mut Guide<'_>,
     first: usize,
@@ -46,7 +47,7 @@ fn number_end(
     requires { first ≤ length numbered.old }
     ensures found { IfOk result (λ told. (number : ℕ) → told ≡ Some number → (first ≤ number) × (slice_get numbered.new number ≡ Some end)) }
     ensures none { IfOk result (λ told. told ≡ None → first + most_numbers ≤ length numbered.new) }
-    ensures still { OnOk result ((rest : List Ends) × (numbered.new ≡ numbered.old ++ rest)) }
+    ensures once { OnOk result ((numbered.new ≡ numbered.old) ⊎ (numbered.new ≡ numbered.old ++ end ∷ [])) }
 {
     let number = guide.place_of(end);
     if number >= first && is_at(numbered.as_slice(), number, end) {
@@ -61,7 +62,7 @@ fn number_end(
     Ok(Some(next))
 }
 
-/// The numbers of what is kept, if there are enough.
+/// The set of the numbers of what is kept, if there are enough.
 fn numbers_of(
     alloc: Global,
     guide: &mut Guide<'_>,
@@ -71,6 +72,7 @@ fn numbers_of(
 ) -> Result<Option<NumberSet>, NoMemory>
     requires { first ≤ length numbered.old }
     ensures has { IfOk result (λ made. (set : NumberSets) → made ≡ Some set → HasAll numbered.new set kept.now × HasOnly numbered.new set kept.now) }
+    ensures first { IfOk result (λ made. (set : NumberSets) → made ≡ Some set → IsTrimmed set) }
     ensures none { IfOk result (λ made. made ≡ None → first + most_numbers ≤ length numbered.new) }
     ensures still { OnOk result ((rest : List Ends) × (numbered.new ≡ numbered.old ++ rest)) }
 {
@@ -85,17 +87,15 @@ fn numbers_of(
 }
 
 /// Sets the set at a place, if there is such a place.
-fn set_at(sets: &mut Vec<Option<NumberSet>>, place: usize, set: Option<NumberSet>)
-    ensures there { place < length sets.old.items → slice_get sets.new.items place ≡ Some set }
-    ensures only { (other : ℕ) (one : NumberSets) → slice_get sets.new.items other ≡ Some (Some one)
-        → ((other ≡ place) × (set ≡ Some one)) ⊎ (slice_get sets.old.items other ≡ Some (Some one)) }
+fn set_at(sets: &mut Vec<Option<NumberSet>>, place: usize, made: Option<NumberSet>)
+    ensures { sets.new.items ≡ set sets.old.items place made }
 {
     if place < sets.len() {
-        sets[place] = set;
+        sets[place] = made;
     }
 }
 
-/// Numbers what is kept for inputs of one group.
+/// Gives numbers to what is kept for these inputs of one group.
 fn number_inputs(
     alloc: Global,
     known: &[Known<'_>],
@@ -123,15 +123,15 @@ fn number_inputs(
     Ok(())
 }
 
-/// Records the inputs that a walk visits from an input. They are the ends of its steps if nothing is kept for it. If it
-/// has only one step into a group, no walk visits it, since such steps are joined.
+/// Records the inputs that a walk visits from an input: those to which its steps lead, if nothing is kept for it. No walk
+/// visits an input whose only step leads into a group, since a step to it is joined with that one.
 fn note_walked(one: &Known<'_>, walked: &mut [bool]) {
     let steps = one.steps.as_slice();
     if one.ends.is_some() || only_inside(steps).is_some() {
         return;
     }
     for step in steps {
-        if let Step::Inside(inside) = *step {
+        if let WayStep::Inside(inside) = *step {
             if let Some(input) = walked.get_mut(inside.input as usize) {
                 *input = true;
             }
@@ -219,7 +219,8 @@ impl KeptSets {
     }
 }
 
-/// For each scope, by how many places later it is, the numbers of inputs that were added from there.
+/// For each scope the numbers of the inputs that were added from there. A scope is given by how many places later it is
+/// than the one where the walk begins.
 #[derive(Drop)]
 pub struct PutSets {
     sets: Vec<NumberSet>,
@@ -238,7 +239,7 @@ impl PutSets {
         Ok(PutSets { sets })
     }
 
-    /// Whether there is such a scope, from which all numbers of a set were added.
+    /// Whether there is such a scope, and all numbers of a set were added from there.
     pub(crate) fn has(&self, scope: usize, set: &NumberSet) -> bool
         ensures { IsTrue result ↔ ((scope < length self.now.sets.items)
             × ((number : ℕ) → HasNumber set.now number → HasNumberAt self.now.sets.items scope number)) }

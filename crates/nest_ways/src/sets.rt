@@ -1,13 +1,13 @@
 //! Sets of numbers, as words of 64 bits.
-ghost use Rattle.std.specs.Prelude.{◌≡◌, ◌↔◌, ◌⊎◌, ◌+◌, ◌<◌, ◌≤◌, ℕ, drop, length, Some, IfOk, IsTrue, OnOk, slice_get};
-ghost use Rattle.nest_ways.specs.Sets.{HasAt, HasNumber, HasRoomFor, HasRoomForAll, HasSame, IsEmpty, IsInWord, IsTrimmed};
+ghost use Rattle.std.specs.Prelude.{◌≡◌, ◌↔◌, ◌⊎◌, ◌+◌, ◌<◌, ◌≤◌, ℕ, [], drop, length, Some, IfOk, IsTrue, OnOk, slice_get};
+ghost use Rattle.nest_ways.specs.Sets.{HasAt, HasNumber, HasRoomFor, HasRoomForGroup, HasRoomForWords, HasSame, IsEmpty, IsInWord, IsTrimmed};
 ghost use Rattle.nest_ways.specs.declared.sets.SetWord.{SetWord as SetWords};
 
 use crate::numbers::MOST_NUMBERS;
 use fixed_words::NoMemory;
 use nest_names::at;
 use smallvec::SmallVec;
-use std::alloc::{AllocError, Global};
+use std::alloc::Global;
 
 /// How many numbers a word is for.
 pub(crate) const WORD_BITS: u32 = 64;
@@ -91,7 +91,7 @@ type Words = SmallVec<SetWord, FEW_WORDS>;
 /// A set of numbers.
 #[derive(Drop)]
 pub struct NumberSet {
-    /// How many words of lower numbers are left out; the set has none of these numbers.
+    /// How many words of lower numbers are left out. The set has none of these numbers.
     start: usize,
     words: Words,
 }
@@ -212,7 +212,7 @@ impl NumberSet {
         Ok(())
     }
 
-    /// The same numbers, without empty words before the first one, as far as its start is a `usize`.
+    /// The same numbers, without the empty words in front. Some of these stay only where the start would be no `usize`.
     pub(crate) fn trimmed(&self) -> Result<NumberSet, NoMemory>
         ensures same { IfOk result (λ made. HasSame made self.now) }
         ensures first { IfOk result (λ made. IsTrimmed made) }
@@ -239,21 +239,23 @@ impl NumberSet {
         )
     }
 
-    /// Chooses how many words are left out, if the set has no words yet, so that there is room for all numbers of the
-    /// group.
+    /// Chooses how many words are left out, if the set has no words yet. Then there is room for all numbers of the other
+    /// set's group.
     fn begin(&mut self, set: &NumberSet)
         ensures same { (number : ℕ) → HasNumber self.new number ↔ HasNumber self.old number }
-        ensures room { HasRoomForAll self.old set.now ↔ (self.new.start ≤ set.now.start) }
+        ensures room { HasRoomForWords self.old set.now ↔ (self.new.start ≤ set.now.start) }
+        ensures group { self.old.words.items ≡ [] → HasRoomForGroup self.new set.now }
     {
         if self.words.is_empty() {
             self.start = set.start.saturating_sub(MOST_WORDS);
         }
     }
 
-    /// Adds all numbers of another set of the same group, if there is room for them. Returns whether it did. There is no room where
-    /// the words of the other set begin earlier; those of a set of the same group don't.
+    /// Adds all numbers of another set, if there is room for its words, and returns whether it did. There is no room if
+    /// its words begin earlier. Those of another set of the same group don't.
     pub(crate) fn put_all(&mut self, set: &NumberSet) -> Result<bool, NoMemory>
-        ensures room { IfOk result (λ told. IsTrue told ↔ HasRoomForAll self.old set.now) }
+        ensures room { IfOk result (λ told. IsTrue told ↔ HasRoomForWords self.old set.now) }
+        ensures group { OnOk result (self.old.words.items ≡ [] → HasRoomForGroup self.new set.now) }
         ensures there { IfOk result (λ told. IsTrue told → (number : ℕ) → HasNumber set.now number → HasNumber self.new number) }
         ensures still { OnOk result ((number : ℕ) → HasNumber self.old number → HasNumber self.new number) }
         ensures only { OnOk result ((number : ℕ) → HasNumber self.new number → HasNumber set.now number ⊎ HasNumber self.old number) }
@@ -263,10 +265,11 @@ impl NumberSet {
             return Ok(false);
         };
         for (place, word) in set.words.as_slice().iter().enumerate() {
-            let Some(there) = ahead.checked_add(place) else {
-                return Err(AllocError);
-            };
+            let there = ahead + place;
             grow_to(&mut self.words, there)?;
+            // So the next place is a `usize` too, as the length is.
+            let reaches = there < self.words.len();
+            prove!(reaches);
             put_word(&mut self.words, there, *word);
         }
         Ok(true)

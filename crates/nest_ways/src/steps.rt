@@ -4,7 +4,7 @@ ghost use Rattle.nest_names.specs.Flattening.{place_at};
 ghost use Rattle.nest_names.specs.declared.scope.GroupScope.{GroupScope};
 ghost use Rattle.nest_ways.specs.Reaching.{AreKnown, AreSteps, FindsKnown, IsPast, IsStep, ins_of, lines_of};
 ghost use Rattle.nest_ways.specs.declared.steps.Known.{Known as Knowns};
-ghost use Rattle.nest_ways.specs.declared.steps.Step.TheVariants as step_is;
+ghost use Rattle.nest_ways.specs.declared.steps.WayStep.TheVariants as step_is;
 
 use crate::ends::{End, same_line};
 use crate::guide::Guide;
@@ -15,7 +15,7 @@ use nest_text::Bind;
 use smallvec::SmallVec;
 use std::alloc::Global;
 
-/// A step into an instance of a group, or several nested ones, to an input of a group.
+/// A step to an input of a group: into one instance, or into several that are nested.
 #[derive(Clone, Copy, Debug, PartialEq, Eq)]
 pub struct Inside {
     /// How many places later the inner scope is, in the list of all scopes.
@@ -26,17 +26,17 @@ pub struct Inside {
 
 /// A step from an input of a group, by one of its `in` lines.
 #[derive(Clone, Copy, Debug, PartialEq, Eq)]
-pub enum Step {
-    /// To an input of a component: the inner port of the line at this place, the first one with this inner port.
+pub enum WayStep {
+    /// To an input of a component. It is the inner port of the line at this place, the first line that has this port.
     Component(u32),
     /// To an input of a group.
     Inside(Inside),
 }
 
 /// What a short list has at a place without a step.
-impl Default for Step {
-    fn default() -> Step {
-        Step::Component(0)
+impl Default for WayStep {
+    fn default() -> WayStep {
+        WayStep::Component(0)
     }
 }
 
@@ -45,14 +45,14 @@ impl Default for Step {
 const FEW_STEPS: usize = 4;
 
 /// The steps of an input, one for each of its lines, in turn.
-pub type InputSteps = SmallVec<Step, FEW_STEPS>;
+pub type InputSteps = SmallVec<WayStep, FEW_STEPS>;
 
 /// A known input of a group.
 #[derive(Drop)]
 pub struct Known<'n> {
     pub group: usize,
     pub port: &'n [u8],
-    /// How many levels down, at most, the inputs of components are that it reaches.
+    /// The inputs of components that it reaches are at most so many levels down.
     pub height: usize,
     /// Its steps.
     pub steps: InputSteps,
@@ -61,22 +61,22 @@ pub struct Known<'n> {
 }
 
 /// The only step of an input, if it has one step and this leads into a group.
-pub(crate) fn only_inside(steps: &[Step]) -> Option<Inside>
+pub(crate) fn only_inside(steps: &[WayStep]) -> Option<Inside>
     ensures { (inside : _) → (result ≡ Some inside) ↔ (steps.now ≡ step_is.Inside inside ∷ []) }
 {
     if steps.len() != 1 {
         return None;
     }
     match *at(steps, 0)? {
-        Step::Component(_) => None,
-        Step::Inside(inside) => Some(inside),
+        WayStep::Component(_) => None,
+        WayStep::Inside(inside) => Some(inside),
     }
 }
 
-/// A step, and how many levels down, at most, the inputs of components are that it reaches.
+/// A step. The inputs of components that it reaches are at most `height` levels down.
 #[derive(Clone, Copy)]
 pub(crate) struct Descent {
-    step: Step,
+    step: WayStep,
     height: usize,
 }
 
@@ -114,7 +114,7 @@ fn component_step<'n>(
     let Ok(line) = u32::try_from(line) else {
         return None;
     };
-    let step = Step::Component(line);
+    let step = WayStep::Component(line);
     Some(Descent { step, height: 0 })
 }
 
@@ -154,7 +154,7 @@ fn inside_step<'n>(
         return None;
     };
     let onward = past(inner, Inside { offset, input })?;
-    let step = Step::Inside(onward);
+    let step = WayStep::Inside(onward);
     Some(Descent { step, height })
 }
 
@@ -178,7 +178,7 @@ fn step_of<'n>(
     }
 }
 
-/// The steps of an input, and how many levels down, at most, the inputs of components are that it reaches.
+/// The steps of an input. The inputs of components that it reaches are at most `height` levels down.
 #[derive(Drop)]
 pub(crate) struct Steps {
     pub(crate) steps: InputSteps,

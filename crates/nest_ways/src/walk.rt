@@ -21,7 +21,7 @@ use crate::ends::{End, first_same, put_onward, put_within};
 use crate::guide::Guide;
 use crate::known::Ways;
 use crate::numbers::PutSets;
-use crate::steps::{Inside, Known, Step, only_inside};
+use crate::steps::{Inside, Known, WayStep, only_inside};
 use fixed_words::{List, NoMemory};
 use nest_names::{NestNames, at};
 use std::alloc::Global;
@@ -277,8 +277,8 @@ fn walk_step<'n>(
         return Ok(false);
     };
     match *step {
-        Step::Component(line) => walk_component(start, guide, walk, inlet, known, line),
-        Step::Inside(inside) => walk_inside(start, guide, walk, inlet, known, inside),
+        WayStep::Component(line) => walk_component(start, guide, walk, inlet, known, line),
+        WayStep::Inside(inside) => walk_inside(start, guide, walk, inlet, known, inside),
     }
 }
 

@@ -3,7 +3,7 @@ use Rattle.std.proofs.lemmas.Option.{get_or_from_slice_get, same_Some}
 use Rattle.list_laws.proofs.Members.{at_place, take_next}
 use Rattle.list_laws.proofs.Pairs.{zip_at}
 use Rattle.nest_ways.specs.Reaching.{IsStep, Puts}
-use Rattle.nest_ways.specs.declared.steps.Step.TheVariants as step_is
+use Rattle.nest_ways.specs.declared.steps.WayStep.TheVariants as step_is
 use Rattle.nest_ways.proofs.WayLaws.{lines_end, puts_more}
 use Rattle.nest_ways.proofs.kept.kept_ends.Goals as goal
 

@@ -17,7 +17,8 @@ loop-input-preserved c =
     let long = ap length more.1 in
     let parts = length-append c.loop-input.numbered more.0 in
     let least = c.loop-input.invariant.1 in (
-      sets_with numbered all sets c.set_at.new.sets.items input c.in_ok-set.set
+      subst (AreKeptSets numbered all) (sym c.set_at.ensures)
+          (sets_with numbered all sets input c.in_ok-set.set
           (subst (λ those. AreKeptSets those all sets) (sym more.1) (sets_more c.loop-input.numbered more.0 all sets c.loop-input.invariant.0))
           (λ one is.
           let own = c.in_ok-set.ensures.has one is in record {
@@ -27,6 +28,6 @@ loop-input-preserved c =
             keeps = c.in-Some-ends.is;
             has_all = subst (HasAll numbered one) c.as_slice.ensures own.0;
             has_only = subst (HasOnly numbered one) c.as_slice.ensures own.1;
-          }) c.set_at.ensures.only,
+          })),
       omega (arith, long, parts, least),
     )

@@ -1,8 +1,8 @@
 use Rattle.std.proofs.Common.{◌≡◌, ◌∙◌, ◌++◌, [], ℕ, Some, ap, append-nil, append_assoc, arith, get_or, length, length-append, slice_get, subst, sym}
 use Rattle.std.proofs.lemmas.Option.{same_Some, slice_get-get_or, slice_get_within}
-use Rattle.nest_ways.specs.Sets.{HasAll, HasNumber, HasOnly}
+use Rattle.nest_ways.specs.Sets.{HasAll, HasNumber, HasOnly, IsTrimmed}
 use Rattle.nest_ways.specs.declared.ends.End.{End}
-use Rattle.nest_ways.proofs.SetLaws.{all_same, numbered_next, numbered_only, only_same}
+use Rattle.nest_ways.proofs.SetLaws.{all_same, numbered_next, numbered_on, numbered_only, only_same}
 use Rattle.nest_ways.proofs.numbers.numbers_of.Goals as goal
 
 pub loop-end-init : goal.loop-end-init
@@ -24,7 +24,7 @@ loop-end-preserved c =
     let before = c.loop-end.numbered in
     let old = c.loop-end.set in
     let new = c.put.new.self in
-    let more = c.in_ok-number.ensures.still in
+    let more = numbered_on before c.number_end.new.numbered end c.in_ok-number.ensures.once in
     let here : slice_get kept index ≡ Some end = slice_get-get_or kept index none c.loop-end-test.true in
     let there : slice_get (before ++ more.0) number ≡ Some end =
     ap (λ those. slice_get those number) (sym more.1) ∙ (c.in_ok-number.ensures.found number c.in-Some.is).1 in
@@ -45,6 +45,9 @@ loop-end-preserved c =
 
 pub put-requires : goal.put-requires
 put-requires c = c.loop-end.invariant.4 c.in-Some.number (c.in_ok-number.ensures.found c.in-Some.number c.in-Some.is).0
+
+pub returns-clause-first : goal.returns-clause-first
+returns-clause-first c set is = subst IsTrimmed (same_Some c.in_ok-trimmed.field-0 set is) c.in_ok-trimmed.ensures.first
 
 pub returns-clause-has : goal.returns-clause-has
 returns-clause-has c set is =

@@ -5,7 +5,7 @@ use Rattle.std.proofs.lemmas.Option.{same_Some}
 use Rattle.nest_text.specs.declared.nest.Bind.{Bind}
 use Rattle.nest_ways.specs.Reaching.{IsStep, ins_of}
 use Rattle.nest_ways.specs.declared.steps.Descent.{Descent}
-use Rattle.nest_ways.specs.declared.steps.Step.TheVariants as step_is
+use Rattle.nest_ways.specs.declared.steps.WayStep.TheVariants as step_is
 use Rattle.nest_ways.proofs.steps.component_step.Goals as goal
 
 pub returns : goal.returns

@@ -6,7 +6,7 @@ use Rattle.nest_ways.specs.Reaching.{IsStep, LeadsInside, LeadsTo}
 use Rattle.nest_ways.specs.declared.steps.Descent.{Descent}
 use Rattle.nest_ways.specs.declared.steps.Inside.{Inside}
 use Rattle.nest_ways.specs.declared.steps.Known.{Known}
-use Rattle.nest_ways.specs.declared.steps.Step.TheVariants as step_is
+use Rattle.nest_ways.specs.declared.steps.WayStep.TheVariants as step_is
 use Rattle.nest_ways.proofs.WayLaws.{leads_inside, leads_past, some_is}
 use Rattle.nest_ways.proofs.steps.inside_step.Goals as goal
 

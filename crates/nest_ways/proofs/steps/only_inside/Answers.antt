@@ -2,8 +2,8 @@ use Rattle.std.proofs.Common.{◌≡◌, ◌∙◌, List, Some, ap, sym}
 use Rattle.std.specs.Prelude.{slice_get}
 use Rattle.std.specs.Option.{option_map}
 use Rattle.std.proofs.lemmas.Option.{same_Some}
-use Rattle.nest_ways.specs.declared.steps.Step.{Step}
-use Rattle.nest_ways.specs.declared.steps.Step.TheVariants as step_is
+use Rattle.nest_ways.specs.declared.steps.WayStep.{WayStep}
+use Rattle.nest_ways.specs.declared.steps.WayStep.TheVariants as step_is
 use Rattle.nest_ways.proofs.WayLaws.{only_one}
 use Rattle.nest_ways.proofs.steps.only_inside.Goals as goal
 
@@ -15,7 +15,7 @@ returns-in-Inside c inside = (
       let one : c.in-Inside.inside ≡ inside = cc same in ap (λ each. Some each) one,
 )
   where
-    steps : List Step
+    steps : List WayStep
     steps = c.args.steps.now
 
     there : slice_get steps 0 ≡ Some (step_is.Inside c.in-Inside.inside)

@@ -6,7 +6,7 @@ use Rattle.nest_text.specs.declared.nest.Bind.{Bind}
 use Rattle.std.proofs.lemmas.Option.{same_Some}
 use Rattle.nest_ways.specs.Reaching.{IsStep, KeepsAll, LeadsHere, LeadsInside, lines_of}
 use Rattle.nest_ways.specs.Walking.{IsDone, WalksOn, WalksWhole}
-use Rattle.nest_ways.specs.declared.steps.Step.TheVariants as step_is
+use Rattle.nest_ways.specs.declared.steps.WayStep.TheVariants as step_is
 use Rattle.nest_ways.specs.declared.walk.Inlet.{Inlet}
 use Rattle.nest_ways.proofs.WalkLaws.{inside_there, inside_walks, is_done_now, ok_more, walks_done, walks_more, walks_none, walks_same, walks_stop}
 use Rattle.nest_ways.proofs.WalkLaws.{whole_of}

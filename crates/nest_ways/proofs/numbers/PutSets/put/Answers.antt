@@ -4,7 +4,7 @@ use Rattle.std.specs.declared.alloc.AllocError.{AllocError}
 use Rattle.list_laws.proofs.Members.{read_at}
 use Rattle.list_laws.proofs.Options.{on_ok}
 use Rattle.std.proofs.lemmas.Option.{same_Some}
-use Rattle.nest_ways.specs.Sets.{HasRoomForAll}
+use Rattle.nest_ways.specs.Sets.{HasRoomForWords}
 use Rattle.nest_ways.proofs.SetLaws.{put_set, put_still, put_there}
 use Rattle.nest_ways.proofs.numbers.PutSets.put.Goals.{In-Some}
 use Rattle.nest_ways.proofs.numbers.PutSets.put.Goals as goal
@@ -50,5 +50,5 @@ returns-in-Some-clause-room c =
     if_ok c.put_all.result _ _
     (λ told room. (
       λ is. (own, at, room.0 is),
-      λ has. room.1 (subst (λ each. HasRoomForAll each c.args.set.now) (same_Some has.0 own (sym has.1 ∙ at)) has.2),
+      λ has. room.1 (subst (λ each. HasRoomForWords each c.args.set.now) (same_Some has.0 own (sym has.1 ∙ at)) has.2),
     )) c.put_all.ensures.room

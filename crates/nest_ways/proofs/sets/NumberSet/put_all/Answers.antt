@@ -13,18 +13,19 @@ loop-place-preserved c =
     let new : NumberSet = record { start = old.start; words = c.put_word.new.words } in
     let words = c.as_slice-word-items.result.now in
     let place = c.loop-place.place in
-    let there = c.in-Some-checked_add.there in
+    let there = c.in-Some.ahead + place in
+    let long = c.in_ok-grow_to.ensures.long in
+    let length = c.len.ensures.value in
     let none : SetWord = record { bits = 0 } in
     let word = get_or words place none in
     let at : slice_get other.words.items place ≡ Some word =
     ap (λ those. slice_get those place) (sym c.as_slice-word-items.ensures) ∙ slice_get-get_or words place none c.loop-place-test.true in
-    let sum = c.in-Some-checked_add.ensures in
     let sub = c.in-Some.ensures in
     let same = c.loop-place.invariant.1 in
     let far : other.start ≡ old.start + c.in-Some.ahead = omega (arith, sub, same) in (
       λ number held.
           further number
-          (word_comes old new other word c.in-Some.ahead place there refl far (omega (arith, sum)) at
+          (word_comes old new other word c.in-Some.ahead place there refl far refl at
           (λ k bit has. before word there k bit (c.put_word.ensures.only k bit has)) number held),
       same,
       λ number had.
@@ -34,8 +35,9 @@ loop-place-preserved c =
             has = still was.place was.bit was.has;
             is = was.is;
           },
-      within_next other.words.items new.words.items place there c.in-Some.ahead word word at (omega (arith, sum)) (λ bit is. is) c.put_word.ensures.there
+      within_next other.words.items new.words.items place there c.in-Some.ahead word word at refl (λ bit is. is) c.put_word.ensures.there
           (λ k bit less has. still (c.in-Some.ahead + k) bit (c.loop-place.invariant.3 k bit less has)),
+      omega (arith, long, length),
     )
   where
     still : (k bit : ℕ) → HasAt c.loop-place.self.words.items k bit → HasAt c.put_word.new.words.items k bit
@@ -62,3 +64,8 @@ returns-clause-there c told =
     let within =
     slice_get_within c.as_slice-word-items.result.now place has.0 (ap (λ those. slice_get those place) c.as_slice-word-items.ensures ∙ has.1) in
     c.loop-place.invariant.3 place bit (omega (arith, within, long)) has)
+
+pub returns-clause-group : goal.returns-clause-group
+returns-clause-group c none number near =
+    let room = c.begin.ensures.group none number near in
+    let same = c.loop-place.invariant.1 in omega (arith, room, same)
