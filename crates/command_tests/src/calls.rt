@@ -185,8 +185,8 @@ fn answers_are_taken_of_as_many_rows_as_are_guessed_right(rt: HostRuntime) -> Re
     Ok(())
 }
 
-/// A lane whose guesses are all wrong has a ticket for each of its 20 steps, and one whose guesses are right has fewer. So the count
-/// of both is neither that of one alone nor twice that of one.
+/// A lane whose guesses are all wrong has a ticket for each of its 20 steps. One whose guesses are all right has 8 to 13, by how soon
+/// the worker takes them. So the sum is neither that of one lane nor twice that of one.
 #[test]
 fn tickets_of_different_lanes_are_added(rt: HostRuntime) -> Result<(), Fail> {
     let words = [
@@ -201,37 +201,7 @@ fn tickets_of_different_lanes_are_added(rt: HostRuntime) -> Result<(), Fail> {
     ];
     let gate = Waits::new();
     let [_, _, _, _, posted, _, _] = counts_of(rt, rt.alloc(), &words, MIXED, ROWS, &gate)?;
-    assert!(rt; posted > 20 && posted < 40, "{posted}");
-    Ok(())
-}
-
-/// Returns how many tickets a run with this window takes where all guesses are right.
-fn tickets_of<R: Threads + Wait + Copy + Send + Drop + 'static>(
-    rt: R,
-    alloc: Global,
-    window: &str,
-) -> Result<u64, Fail> {
-    let words = [
-        "run",
-        "--workers",
-        "1",
-        "--window",
-        window,
-        "--guess",
-        "linear",
-        "--report",
-    ];
-    let gate = Waits::new();
-    let [_, _, _, _, posted, _, _] = counts_of(rt, alloc, &words, RISING, ROWS, &gate)?;
-    Ok(posted)
-}
-
-/// A longer window has fewer tickets, since each of them is for more rows.
-#[test]
-fn a_longer_window_has_fewer_tickets(rt: HostRuntime) -> Result<(), Fail> {
-    let short = tickets_of(rt, rt.alloc(), "2")?;
-    let long = tickets_of(rt, rt.alloc(), "16")?;
-    assert!(rt; long < short, "{long} {short}");
+    assert!(rt; posted > 26 && posted < 40, "{posted}");
     Ok(())
 }
 
