@@ -1,7 +1,6 @@
 -- What is agreed on, found instance by instance from the slots of a run in its trial.
-use Rattle.std.proofs.Common.{◌≡◌, ◌∙◌, ℕ, ◌+◌, ◌≤◌, ◌==◌, true, false, cond, is_some, List, [], ◌∷◌, length, zip, get_or, Option, Some, None, Result, refl, ap, sym, subst, arith}
+use Rattle.std.proofs.Common.{◌≡◌, ◌∙◌, ℕ, ◌+◌, ◌≤◌, ◌==◌, true, false, cond, is_some, List, [], ◌∷◌, length, zip, Option, Some, None, Result, refl, ap, sym, subst, arith}
 use Rattle.std.proofs.lemmas.List.{length-map}
-use Rattle.std.proofs.lemmas.Option.{get_or_from_slice_get, slice_get_within}
 use Rattle.std.specs.Prelude.{slice_get, nat_lt, IfSome}
 use Rattle.event_runs.proofs.TurnLaws.{replies_are}
 use Rattle.event_runs.specs.Readings.{pace_of}
@@ -19,8 +18,8 @@ use Rattle.step_rule.specs.declared.steps.Slot.{Slot}
 use Rattle.step_rule.specs.declared.steps.Slot.TheVariants as slot
 use Rattle.unit_tree.specs.Components.{Moved}
 use Rattle.unit_tree.specs.Compositions.{Composition, Member}
-use Rattle.unit_tree.specs.Negotiation.{agreed_step, reply_of, step_at}
-use Rattle.unit_tree.specs.Successor.{agreed, proposed, standings, steps_by, trial, trial_end, when}
+use Rattle.unit_tree.specs.Negotiation.{agreed_step, reply_of}
+use Rattle.unit_tree.specs.Successor.{agreed, proposed, steps_by, trial, trial_end, when}
 use Rattle.unit_tree.specs.declared.ending.Ending.{Ending}
 
 -- ---- Lists

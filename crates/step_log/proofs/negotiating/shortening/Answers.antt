@@ -66,7 +66,7 @@ loop-instance-preserved c =
     ]
 
 pub loop-instance-init : goal.loop-instance-init
-loop-instance-init c = refl
+loop-instance-init c = record { is = refl }
 
 pub returns : goal.returns
 returns c =
